@@ -1,0 +1,105 @@
+-- Laws of lists: what a search comes to, how often a number stands in a list, a place left out.
+use mathlib.Core.Path.{_≡_, refl, sym, _∙_, ap, subst}
+use mathlib.Core.Bool.{Bool, true, false, not, _||_, true≢false, false≢true}
+use mathlib.Core.Option.{none, some}
+use mathlib.Core.List.{List, [], _∷_, _++_, map}
+use Prim.Native.Nat.{ℕ, zero, suc, _+_, _≤_, _<_}
+use native.Mathlib.Omega.{arith}
+use lib.Dec.{eqb}
+use lib.ListN.{length, set, getD, take}
+use Rattle.sizes.specs.Words.{over, any, at, cut, place, Each, has, one-if, times}
+use Rattle.sizes.proofs.Tests.{Tested, pass, fail, tested, none≢some}
+
+-- what a search comes to
+pub record Hit {A : Type 0} (ok : A → Bool) (l : List A) (n : ℕ) (a : A) : Type 0 where
+  pub found : place ok l ≡ some n
+  pub stands : at l n ≡ some a
+  pub passes : ok a ≡ true
+
+pub data Sought {A : Type 0} (ok : A → Bool) (l : List A) : Type 0 where
+  hit : (n : ℕ) (a : A) → Hit ok l n a → Sought ok l
+  miss : place ok l ≡ none → ((i : ℕ) (a : A) → at l i ≡ some a → ok a ≡ false) → Sought ok l
+
+pub sought : {A : Type 0} (ok : A → Bool) (l : List A) → Sought ok l
+sought ok [] = miss refl (λ i a e. absurd (none≢some e))
+sought ok (a ∷ l) = go (tested (ok a)) (sought ok l)
+  where
+    go : Tested (ok a) → Sought ok l → Sought ok (a ∷ l)
+    go (pass e) r = hit 0 a (record { found = rw e; stands = refl; passes = e })
+    go (fail e) (hit n b h) = hit (suc n) b (record { found = rw (e, h .found); stands = h .stands; passes = h .passes })
+    go (fail e) (miss p u) = miss (rw (e, p)) (λ i b q. none-at i b q)
+      where
+        none-at : (i : ℕ) (b : _) → at (a ∷ l) i ≡ some b → ok b ≡ false
+        none-at zero b q = let s : a ≡ b = cc in subst (λ x. ok x ≡ false) s e
+        none-at (suc i) b q = u i b q
+
+pub at-take : {A : Type 0} (l : List A) (m n : ℕ) (a : A) → at (take m l) n ≡ some a → n < m
+at-take l zero n a e = absurd (none≢some e)
+at-take [] (suc m) n a e = absurd (none≢some e)
+at-take (b ∷ l) (suc m) zero a e = omega arith
+at-take (b ∷ l) (suc m) (suc n) a e = let h = at-take l m n a e in omega arith
+
+pub at-get : {A : Type 0} (z : A) (l : List A) (n : ℕ) (a : A) → at l n ≡ some a → (getD l n z ≡ a) × (n < length l)
+at-get z [] n a e = absurd (none≢some e)
+at-get z (b ∷ l) zero a e = let s : b ≡ a = cc in (s, omega arith)
+at-get z (b ∷ l) (suc n) a e = let r = at-get z l n a e in (r .0, (let h = r .1 in omega arith))
+
+module _ {A : Type 0} (P : A → Type 0) where
+  pub each-append : (a b : List A) → Each P a → Each P b → Each P (a ++ b)
+  each-append [] b u v = v
+  each-append (x ∷ a) b u v = (u .0, each-append a b (u .1) v)
+
+  pub each-cut : (l : List A) (n : ℕ) → Each P l → Each P (cut l n)
+  each-cut [] n u = u
+  each-cut (a ∷ l) zero u = u .1
+  each-cut (a ∷ l) (suc n) u = (u .0, each-cut l n (u .1))
+
+module _ {A B : Type 0} (f : A → B) where
+  pub map-append : (a b : List A) → map f (a ++ b) ≡ map f a ++ map f b
+  map-append [] b = refl
+  map-append (x ∷ a) b = ap (λ l. f x ∷ l) (map-append a b)
+
+  pub map-cut : (l : List A) (n : ℕ) → map f (cut l n) ≡ cut (map f l) n
+  map-cut [] n = refl
+  map-cut (a ∷ l) zero = refl
+  map-cut (a ∷ l) (suc n) = ap (λ r. f a ∷ r) (map-cut l n)
+
+  -- an element is exchanged for one that f does not tell from it
+  pub map-set-same : (l : List A) (i : ℕ) (a b : A) → at l i ≡ some b → f a ≡ f b → map f (set l i a) ≡ map f l
+  map-set-same [] i a b e h = refl
+  map-set-same (c ∷ l) zero a b e h = let s : c ≡ b = cc in ap (λ x. x ∷ map f l) (h ∙ ap f (sym s))
+  map-set-same (c ∷ l) (suc i) a b e h = ap (λ r. f c ∷ r) (map-set-same l i a b e h)
+
+-- a test over a map
+pub any-map : {A B : Type 0} (ok : B → Bool) (f : A → B) (l : List A) → any ok (map f l) ≡ any (λ a. ok (f a)) l
+any-map ok f [] = refl
+any-map ok f (a ∷ l) = ap (λ b. ok (f a) || b) (any-map ok f l)
+
+pub times-append : (n : ℕ) (a b : List ℕ) → times n (a ++ b) ≡ times n a + times n b
+times-append n [] b = omega arith
+times-append n (x ∷ a) b = let h = times-append n a b in omega arith
+
+-- a place left out counts no more
+pub times-cut : (n : ℕ) (l : List ℕ) (i : ℕ) → times n (cut l i) ≤ times n l
+times-cut n [] i = omega arith
+times-cut n (a ∷ l) zero = omega arith
+times-cut n (a ∷ l) (suc i) = let h = times-cut n l i in omega arith
+
+pub has-times : (n : ℕ) (l : List ℕ) → has n l ≡ true → 1 ≤ times n l
+has-times n [] e = absurd (false≢true e)
+has-times n (a ∷ l) e = (elim (eqb a n) as (λ t. (t || has n l) ≡ true → 1 ≤ one-if t + times n l)
+    [ true ↦ λ e. omega arith | false ↦ λ e. (let h = has-times n l e in omega arith) ]) e
+
+pub times-has : (n : ℕ) (l : List ℕ) → times n l ≡ 0 → has n l ≡ false
+times-has n [] e = refl
+times-has n (a ∷ l) e = (elim (eqb a n) as (λ t. one-if t + times n l ≡ 0 → (t || has n l) ≡ false)
+    [ true ↦ λ e. absurd (omega arith) | false ↦ λ e. times-has n l (omega arith) ]) e
+
+pub has-none : (n : ℕ) (l : List ℕ) → has n l ≡ false → times n l ≡ 0
+has-none n [] e = refl
+has-none n (a ∷ l) e = (elim (eqb a n) as (λ t. (t || has n l) ≡ false → one-if t + times n l ≡ 0)
+    [ true ↦ λ e. absurd (true≢false e) | false ↦ λ e. (let h = has-none n l e in omega arith) ]) e
+
+-- a number that is not in a list is not in it with a place left out
+pub has-cut : (n : ℕ) (l : List ℕ) (i : ℕ) → has n l ≡ false → has n (cut l i) ≡ false
+has-cut n l i e = times-has n (cut l i) (let a = has-none n l e in let b = times-cut n l i in omega arith)
