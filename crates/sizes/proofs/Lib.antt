@@ -2,5 +2,8 @@
 pub mod Tests
 pub mod Lists
 pub mod Arrays
+pub mod Arithmetic
+pub mod Lengths
+pub mod PartitionLaws
 pub mod ToiLaws
 pub mod AllocatorLaws

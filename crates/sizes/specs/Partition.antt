@@ -1,5 +1,5 @@
 -- Partition of an object into blocks (RFC 5052, section 9.1), and the length of one block in bytes.
-use mathlib.Core.Bool.{Bool, true, false, _&&_, _||_}
+use mathlib.Core.Bool.{Bool, _&&_, _||_}
 use mathlib.Core.Option.{Option, none, some}
 use Prim.Native.Nat.{ℕ, _+_, _-_, _*_, _/_, min}
 use lib.Dec.{eqb, ltb}
@@ -9,6 +9,8 @@ use Rattle.sizes.specs.declared.numbers.Sbn.{Sbn}
 use Rattle.sizes.specs.declared.partition.Partition.{Partition}
 use Rattle.sizes.specs.declared.partition.BlockLength.{BlockLength}
 use Rattle.sizes.specs.declared.partition.BlockLength.the-variants.{Bytes, Nothing}
+use Rattle.sizes.specs.declared.partition.Checked.{Checked}
+use Rattle.sizes.specs.declared.partition.Checked.the-variants.{Fits, Past}
 
 -- the block with this number
 abbrev pub sbn : ℕ → Sbn
@@ -51,11 +53,19 @@ block-size p e k = symbols-in p k * e
 unfoldable pub fits : ℕ → Bool
 fits n = ltb n wide
 
--- the bytes of a block that l bytes reach, or none: a number passes 64 bits (both block sizes are always formed), the block begins at l or later, or its size is 0
+-- a number, where it fits 64 bits
+unfoldable pub checked : ℕ → Checked
+checked n = if fits n then Fits n else Past
+
+-- of a block of this size that begins at offset, the bytes that l bytes reach, or none
+unfoldable pub reach : ℕ → ℕ → ℕ → Option ℕ
+reach offset size l = if ltb offset l && ltb 0 size then some (min size (l - offset)) else none
+
+-- a block's length: none where a number passes 64 bits (both block sizes are always formed), else what l bytes reach of it
 unfoldable pub block-length : Partition → ℕ → ℕ → Sbn → Option ℕ
 block-length p l e k =
-    if fits (p .large * e) && fits (p .small * e) && fits (block-start p e k) && ltb (block-start p e k) l && ltb 0 (block-size p e k)
-    then some (min (block-size p e k) (l - block-start p e k))
+    if fits (p .large * e) && fits (p .small * e) && fits (block-start p e k)
+    then reach (block-start p e k) (block-size p e k) l
     else none
 
 -- the sizes that block_length is handed; it does not ask how many blocks there are

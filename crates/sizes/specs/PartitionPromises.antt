@@ -1,6 +1,6 @@
 -- What is promised of a partition: statements only, proved in proofs/PartitionLaws.
 use mathlib.Core.Path.{_≡_}
-use mathlib.Core.Option.{Option, none, some}
+use mathlib.Core.Option.{none, some}
 use Prim.Native.Nat.{ℕ, _+_, _-_, _*_, _≤_, _<_, min}
 use Rattle.sizes.specs.Words.{sum-below}
 use Rattle.sizes.specs.Limits.{largest-symbol, largest-block, most-blocks, longest-store, wide}
