@@ -1,0 +1,5 @@
+pub mod Lines
+pub mod Lists
+pub mod Numbers
+pub mod ReadBack
+pub mod Words

@@ -1,0 +1,159 @@
+// Lines: what line feeds end, in a slice and from a descriptor.
+ghost use mathlib.Core.Path.{_≡_};
+ghost use Prim.Native.Nat.{_+_, _≤_};
+ghost use lib.ListN.{length, take, drop};
+ghost use Rattle.text.specs.Bytes.{part};
+ghost use Rattle.text.specs.Lines.{NextLine, Refilled, Added, Taken, line-of, nothing-read};
+use crate::bytes::Class;
+use crate::bytes::pass;
+
+// A line ends at the line feed at `end`, and the next starts at `next`; no line feed is left.
+pub enum Line {
+    At { end: usize, next: usize },
+    Open,
+}
+
+// The end of the line that `from` is in: the first line feed at or after it.
+pub fn next_line(s: &[u8], from: usize) -> Line
+    ensures { λ r. ⌜ NextLine (now (s .entry)) from r ⌝ }
+{
+    let end = pass(Class::InLine, s, from);
+    if s.len() <= end {
+        return Line::Open;
+    }
+    Line::At { end, next: end + 1 }
+}
+
+// Moves the bytes from..to of buf to its front (none where that is no part of buf), reads once to fill
+// what is left of buf, and answers how many bytes at the front of buf are filled.
+pub fn refill(fd: i32, buf: &mut [u8], from: usize, to: usize) -> usize
+    ensures { λ r. ⌜ Refilled (now (buf .entry)) from to (now (buf .exit)) r ⌝ }
+{
+    if to < from {
+        return read_at(fd, buf, 0);
+    }
+    if buf.len() < to {
+        return read_at(fd, buf, 0);
+    }
+    let kept = to - from;
+    move_to_front(buf, from, kept);
+    read_at(fd, buf, kept)
+}
+
+// Moves the n bytes of buf from `from` on to its front.
+fn move_to_front(buf: &mut [u8], from: usize, n: usize)
+    requires { ⌜ from + n ≤ length (now buf) ⌝ }
+    ensures { λ _. ⌜ (length (now (buf .exit)) ≡ length (now (buf .entry))) × (take n (now (buf .exit)) ≡ take n (drop from (now (buf .entry)))) ⌝ }
+{
+    let mut i = 0;
+    while i < n {
+        buf[i] = buf[from + i];
+        i += 1;
+    }
+}
+
+// Reads once into buf from index `at` on, and answers how far buf is filled.
+fn read_at(fd: i32, buf: &mut [u8], at: usize) -> usize
+    requires { ⌜ at ≤ length (now buf) ⌝ }
+    ensures { λ r. ⌜ Added (now (buf .entry)) at (now (buf .exit)) r ⌝ }
+{
+    let got = libc::read(fd, &mut buf[at..]);
+    let more = io::count(got, &buf[at..]);
+    at + more
+}
+
+// Where a program stands in what it reads, with the buffer that it lends: the line taken last is the
+// bytes start..end of the buffer, and next..to are read and not taken yet. No line was left where `over`
+// is set. Nothing more is read once `ended` is set.
+pub struct Input {
+    pub start: usize,
+    pub end: usize,
+    pub next: usize,
+    pub to: usize,
+    pub over: bool,
+    pub ended: bool,
+}
+
+// Nothing read, nothing taken: where reading starts.
+pub fn unread() -> Input
+    ensures { λ r. ⌜ r ≡ nothing-read ⌝ }
+{
+    Input {
+        start: 0,
+        end: 0,
+        next: 0,
+        to: 0,
+        over: false,
+        ended: false,
+    }
+}
+
+// Takes the next line of what fd gives, without its line feed. A line that does not fit buf comes in pieces
+// as long as buf; what follows the last line feed is a line, unless it is empty. A read that fails counts as
+// the end of the input.
+pub fn take_line(fd: i32, buf: &mut [u8], was: Input) -> Input
+    ensures { λ r. ⌜ Taken (part (was .next) (was .to) (now (buf .entry))) (now (buf .entry)) (was .ended) (now (buf .exit)) r ⌝ }
+{
+    let from = was.next;
+    let to = was.to;
+    let ended = was.ended;
+    if to < from {
+        return take_from(fd, buf, 0, 0, ended);
+    }
+    if buf.len() < to {
+        return take_from(fd, buf, 0, 0, ended);
+    }
+    take_from(fd, buf, from, to, ended)
+}
+
+// The same, where from..to is pending.
+fn take_from(fd: i32, buf: &mut [u8], from: usize, to: usize, ended: bool) -> Input
+    requires { ⌜ (from ≤ to) × (to ≤ length (now buf)) ⌝ }
+    ensures { λ r. ⌜ Taken (part from to (now (buf .entry))) (now (buf .entry)) ended (now (buf .exit)) r ⌝ }
+{
+    if ended {
+        return first_line(buf, from, to, true);
+    }
+    let mut at = from;
+    let mut end = to;
+    while end - at < buf.len() {
+        let r = first_line(buf, at, end, false);
+        if r.end < end {
+            return r;
+        }
+        let n = refill(fd, buf, at, end);
+        if n == end - at {
+            return first_line(buf, 0, n, true);
+        }
+        at = 0;
+        end = n;
+    }
+    first_line(buf, at, end, false)
+}
+
+// The first line of from..to.
+fn first_line(s: &[u8], from: usize, to: usize, ended: bool) -> Input
+    requires { ⌜ (from ≤ to) × (to ≤ length (now s)) ⌝ }
+    ensures { λ r. ⌜ r ≡ line-of (now (s .entry)) from to ended ⌝ }
+{
+    let end = pass(Class::InLine, &s[..to], from);
+    let over = from == to;
+    if end < to {
+        return Input {
+            start: from,
+            end,
+            next: end + 1,
+            to,
+            over,
+            ended,
+        };
+    }
+    Input {
+        start: from,
+        end,
+        next: to,
+        to,
+        over,
+        ended,
+    }
+}
