@@ -7,7 +7,7 @@ use Prim.Native.Nat.{ℕ, zero, suc, _+_, _≤_, _<_}
 use native.Mathlib.Omega.{arith}
 use lib.Dec.{eqb}
 use lib.ListN.{length, set, getD, take}
-use Rattle.sizes.specs.Words.{over, any, at, cut, place, Each, has, one-if, times}
+use Rattle.sizes.specs.Words.{if_then_else_, maybe, over, keep, any, find, drop-first, first-of, at, cut, place, Each, has, one-if, times}
 use Rattle.sizes.proofs.Tests.{Tested, pass, fail, tested, none≢some}
 
 -- what a search comes to
@@ -49,12 +49,93 @@ module _ {A : Type 0} (P : A → Type 0) where
   each-append [] b u v = v
   each-append (x ∷ a) b u v = (u .0, each-append a b (u .1) v)
 
+  pub each-keep : (ok : A → Bool) (l : List A) → Each P l → Each P (keep ok l)
+  each-keep ok [] u = tt
+  each-keep ok (a ∷ l) u = elim (ok a) as (λ t. Each P (if t then a ∷ keep ok l else keep ok l))
+      [ true ↦ (u .0, each-keep ok l (u .1)) | false ↦ each-keep ok l (u .1) ]
+
+  pub each-drop-first : (ok : A → Bool) (l : List A) → Each P l → Each P (drop-first ok l)
+  each-drop-first ok [] u = tt
+  each-drop-first ok (a ∷ l) u = elim (ok a) as (λ t. Each P (if t then l else a ∷ drop-first ok l))
+      [ true ↦ u .1 | false ↦ (u .0, each-drop-first ok l (u .1)) ]
+
+  pub each-map : (f : A → A) → ((a : A) → P a → P (f a)) → (l : List A) → Each P l → Each P (map f l)
+  each-map f h [] u = tt
+  each-map f h (a ∷ l) u = (h a (u .0), each-map f h l (u .1))
+
+  pub each-set : (l : List A) (i : ℕ) (a : A) → Each P l → P a → Each P (set l i a)
+  each-set [] i a u v = tt
+  each-set (b ∷ l) zero a u v = (v, u .1)
+  each-set (b ∷ l) (suc i) a u v = (u .0, each-set l i a (u .1) v)
+
+  -- what is found has the property, and passes
+  pub each-find : (ok : A → Bool) (l : List A) (a : A) → find ok l ≡ some a → Each P l → P a × (ok a ≡ true)
+  each-find ok [] a e u = absurd (none≢some e)
+  each-find ok (b ∷ l) a e u = (elim (ok b) as (λ t. ok b ≡ t → (if t then some b else find ok l) ≡ some a → P a × (ok a ≡ true)) [
+    | true ↦ λ h e. (let s : b ≡ a = cc in (subst P s (u .0), subst (λ x. ok x ≡ true) s h))
+    | false ↦ λ h e. each-find ok l a e (u .1)
+  ]) refl e
+
+  pub each-at : (l : List A) (i : ℕ) (a : A) → at l i ≡ some a → Each P l → P a
+  each-at [] i a e u = absurd (none≢some e)
+  each-at (b ∷ l) zero a e u = let s : b ≡ a = cc in subst P s (u .0)
+  each-at (b ∷ l) (suc i) a e u = each-at l i a e (u .1)
+
+  -- what each of two joined lists has
+  pub each-left : (a b : List A) → Each P (a ++ b) → Each P a
+  each-left [] b u = tt
+  each-left (x ∷ a) b u = (u .0, each-left a b (u .1))
+
+  pub each-right : (a b : List A) → Each P (a ++ b) → Each P b
+  each-right [] b u = u
+  each-right (x ∷ a) b u = each-right a b (u .1)
+
+  pub each-all : ((a : A) → P a) → (l : List A) → Each P l
+  each-all h [] = tt
+  each-all h (a ∷ l) = (h a, each-all h l)
+
   pub each-cut : (l : List A) (n : ℕ) → Each P l → Each P (cut l n)
   each-cut [] n u = u
   each-cut (a ∷ l) zero u = u .1
   each-cut (a ∷ l) (suc n) u = (u .0, each-cut l n (u .1))
 
+pub each-imp : {A : Type 0} (P Q : A → Type 0) → ((a : A) → P a → Q a) → (l : List A) → Each P l → Each Q l
+each-imp P Q h [] u = tt
+each-imp P Q h (a ∷ l) u = (h a (u .0), each-imp P Q h l (u .1))
+
+pub each-both : {A : Type 0} (P Q R : A → Type 0) → ((a : A) → P a → Q a → R a) → (l : List A) → Each P l → Each Q l → Each R l
+each-both P Q R h [] u v = tt
+each-both P Q R h (a ∷ l) u v = (h a (u .0) (v .0), each-both P Q R h l (u .1) (v .1))
+
+-- what is found passes
+pub found : {A : Type 0} (ok : A → Bool) (l : List A) (a : A) → find ok l ≡ some a → ok a ≡ true
+found ok l a e = each-find (λ a. Unit {0}) ok l a e (each-all (λ a. Unit {0}) (λ a. tt) l) .1
+
+-- a table with no number: each test fails
+pub first-none : (n : ℕ) (t : Bool) (l : List (ℕ × Bool)) → first-of ((n, t) ∷ l) ≡ none → (t ≡ false) × (first-of l ≡ none)
+first-none n true l e = absurd (none≢some (sym e))
+first-none n false l e = (refl, e)
+
+-- two changes that commute, and one that does not show
+pub map-comm : {A B : Type 0} (F : A → B) (G : A → A) (H : B → B) (l : List A) → Each (λ x. F (G x) ≡ H (F x)) l → map F (map G l) ≡ map H (map F l)
+map-comm F G H [] u = refl
+map-comm F G H (x ∷ l) u = λ i. u .0 i ∷ map-comm F G H l (u .1) i
+
+pub map-hidden : {A B : Type 0} (F : A → B) (G : A → A) (l : List A) → Each (λ x. F (G x) ≡ F x) l → map F (map G l) ≡ map F l
+map-hidden F G [] u = refl
+map-hidden F G (x ∷ l) u = λ i. u .0 i ∷ map-hidden F G l (u .1) i
+
 module _ {A B : Type 0} (f : A → B) where
+  pub map-set : (l : List A) (i : ℕ) (a : A) → map f (set l i a) ≡ set (map f l) i (f a)
+  map-set [] i a = refl
+  map-set (b ∷ l) zero a = refl
+  map-set (b ∷ l) (suc i) a = ap (λ r. f b ∷ r) (map-set l i a)
+
+  pub at-map : (l : List A) (i : ℕ) → at (map f l) i ≡ over f (at l i)
+  at-map [] i = refl
+  at-map (a ∷ l) zero = refl
+  at-map (a ∷ l) (suc i) = at-map l i
+
   pub map-append : (a b : List A) → map f (a ++ b) ≡ map f a ++ map f b
   map-append [] b = refl
   map-append (x ∷ a) b = ap (λ l. f x ∷ l) (map-append a b)

@@ -6,6 +6,7 @@ use lib.Dec.{eqb, ltb}
 use Rattle.sizes.specs.Words.{if_then_else_, ceil}
 use Rattle.sizes.specs.Limits.{wide}
 use Rattle.sizes.specs.declared.numbers.Sbn.{Sbn}
+use Rattle.sizes.specs.declared.numbers.Esi.{Esi}
 use Rattle.sizes.specs.declared.partition.Partition.{Partition}
 use Rattle.sizes.specs.declared.partition.BlockLength.{BlockLength}
 use Rattle.sizes.specs.declared.partition.BlockLength.the-variants.{Bytes, Nothing}
@@ -15,6 +16,10 @@ use Rattle.sizes.specs.declared.partition.Checked.the-variants.{Fits, Pa
 -- the block with this number
 abbrev pub sbn : ℕ → Sbn
 sbn k = record { 0 = k }
+
+-- the symbol with this number in its block
+abbrev pub esi : ℕ → Esi
+esi n = record { 0 = n }
 
 -- T: the symbols that l bytes take
 unfoldable pub symbols-of : ℕ → ℕ → ℕ
@@ -32,6 +37,15 @@ unfoldable pub partition-of : ℕ → ℕ → ℕ → Partition
 partition-of b l e =
     if eqb b 0 || eqb e 0 || eqb (symbols-of l e) 0 then no-blocks
     else split (symbols-of l e) (ceil (symbols-of l e) b)
+
+-- symbol length E and largest block B, as the set-up or an object names them
+pub record Sizes : Type 0 where
+  pub e : ℕ
+  pub b : ℕ
+
+-- the partition of l bytes by them
+abbrev pub blocks-of : Sizes → ℕ → Partition
+blocks-of z l = partition-of (z .b) l (z .e)
 
 -- how many symbols a block has: the first I blocks are large
 unfoldable pub symbols-in : Partition → Sbn → ℕ

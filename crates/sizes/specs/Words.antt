@@ -1,9 +1,9 @@
 -- Words that the definitions are written in: a choice by a test, a rounded quotient, and some functions on lists.
-use mathlib.Core.Bool.{Bool, true, false, _||_}
+use mathlib.Core.Bool.{Bool, true, false, _&&_, _||_}
 use mathlib.Core.Option.{Option, none, some}
 use mathlib.Core.List.{List, [], _∷_, _++_}
 use Prim.Native.Nat.{ℕ, zero, suc, _+_, _-_, _/_}
-use lib.Dec.{eqb}
+use lib.Dec.{eqb, leb}
 
 infix 1 if_then_else_
 -- a choice by a test
@@ -36,10 +36,30 @@ collect f [] = []
 collect f (a ∷ l) = maybe (collect f l) (λ b. b ∷ collect f l) (f a)
 
 module _ {A : Type 0} where
+  -- the elements that pass
+  abbrev pub keep : (A → Bool) → List A → List A
+  keep ok [] = []
+  keep ok (a ∷ l) = if ok a then a ∷ keep ok l else keep ok l
+
   -- does one pass
   abbrev pub any : (A → Bool) → List A → Bool
   any ok [] = false
   any ok (a ∷ l) = ok a || any ok l
+
+  -- do all pass
+  abbrev pub all : (A → Bool) → List A → Bool
+  all ok [] = true
+  all ok (a ∷ l) = ok a && all ok l
+
+  -- the first that passes
+  abbrev pub find : (A → Bool) → List A → Option A
+  find ok [] = none
+  find ok (a ∷ l) = if ok a then some a else find ok l
+
+  -- the list without the first that passes
+  abbrev pub drop-first : (A → Bool) → List A → List A
+  drop-first ok [] = []
+  drop-first ok (a ∷ l) = if ok a then l else a ∷ drop-first ok l
 
   -- the element at place i
   abbrev pub at : List A → ℕ → Option A
@@ -66,6 +86,15 @@ module _ {A : Type 0} where
   abbrev pub Each : (A → Type 0) → List A → Type 0
   Each P [] = Unit {0}
   Each P (a ∷ l) = P a × Each P l
+
+-- is a number in a range
+abbrev pub within : ℕ → ℕ → ℕ → Bool
+within low high n = leb low n && leb n high
+
+-- the first number of a table whose test holds
+abbrev pub first-of : List (ℕ × Bool) → Option ℕ
+first-of [] = none
+first-of (r ∷ l) = if r .1 then some (r .0) else first-of l
 
 -- is the number in the list
 abbrev pub has : ℕ → List ℕ → Bool

@@ -1,0 +1,5 @@
+-- Read in this order: Parts, Lifecycle, Setup, Fdt.
+pub mod Parts
+pub mod Lifecycle
+pub mod Setup
+pub mod Fdt
