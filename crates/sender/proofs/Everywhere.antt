@@ -4,21 +4,25 @@ use mathlib.Core.Bool.{Bool, true, false, not, _&&_}
 use mathlib.Core.Option.{Option, none, some}
 use mathlib.Core.List.{List, [], _∷_, _++_, map}
 use Prim.Native.Nat.{ℕ, _≤_}
-use lib.Dec.{eqb, ltb, leb}
-use borrow.Author.Tests.{not-false, leb-true}
+use lib.Dec.{eqb, ltb}
+use borrow.Author.Tests.{ltb-false, not-false}
 use lib.ListN.{length}
-use Rattle.sizes.specs.Words.{if_then_else_, maybe, given, keep, at, has, find, drop-first, first-of, within}
-use Rattle.sizes.specs.Limits.{largest-symbol, largest-block, most-blocks}
+use Rattle.sizes.specs.Words.{if_then_else_, maybe, given, keep, at, find, drop-first, first-of}
+use Rattle.sizes.specs.Limits.{most-blocks}
 use Rattle.sizes.specs.Partition.{Sizes, blocks-of}
+use Rattle.lifecycle.proofs.SetupLaws.{sizes-told}
 use Rattle.sender.specs.Encoder.{Symbol, read}
 use Rattle.lifecycle.specs.Lifecycle.{Life, announced, triggered, too-early, expired, finished, started}
 use Rattle.lifecycle.specs.Setup.{Setup, sound-sizes, bad-blocks}
 use Rattle.sender.specs.FdtSession.{Fdt, FdtTurn, fdt-published, fdt-run}
 use Rattle.sender.specs.Session.{Object, Hand, Session, living, startable, begin, put-back, forced, Turn, idle, sent, serve, go-on, take-on, file-run}
-use Rattle.sender.specs.Desk.{Desk, Request, Call, Answer, opening, is, moved, numbered, with-fdt, in-hand, marked, marked-hand, all-published, unlisted, removed, prompted, reserved, toi-for, own-sizes, made, admitted, no-session, bad-object-part, not-loose, full, no-room, add-refusal, publish-refusal, draft-refusal, draft-of, unless, ran, step, run, unloosed, fdt-queued, fdt-ran}
+use Rattle.sender.specs.Desk.{Desk, Request, Call, Answer, opening, in-hands, objects, is, moved, numbered, with-fdt, in-hand, marked, marked-hand, all-published, unlisted, removed, prompted, reserved, toi-for, own-sizes, made, admitted, not-loose, full, add-refusal, publish-refusal, draft-refusal, draft-of, unless, ran, step, run, unloosed, fdt-queued, fdt-ran}
 use Rattle.sizes.specs.Words.{Each}
-use Rattle.sizes.proofs.Tests.{and-left, and-right, or-left}
-use Rattle.sizes.proofs.Lists.{each-append, each-keep, each-drop-first, each-map, each-set, each-find, each-at, first-none}
+use Rattle.sizes.proofs.Tests.{or-left, or-right}
+use Rattle.sizes.proofs.Lists.{each-append, each-keep, each-drop-first, each-map, each-set, each-find, each-at, each-left, each-right}
+use Rattle.sender.specs.TotalPromises.{InRange}
+use Rattle.sender.proofs.Weights.{none-yet}
+use Rattle.sender.proofs.Numbers.{blocks-fit}
 
 -- what a session holds
 abbrev pub InHand : (Object → Type 0) → Option Hand → Type 0
@@ -161,26 +165,60 @@ module _ (P : Object → Type 0) (stable : (x : Life) (o : Object) → P o → P
           let z = file-run-all s (x .priority) now (not (eqb (length (d .fdt .state .waiting)) 0)) (d .queue) (x .hand) (u .waiting) (each-at (λ (x : Session). InHand P (x .hand)) (d .sessions) i x e (u .serving)) in
           record { waiting = z .0; serving = each-set (λ (x : Session). InHand P (x .hand)) (d .sessions) i _ (u .serving) (z .1) }
 
+-- the same over the list of all objects
+module _ (P : Object → Type 0) where
+  each-hands : (l : List Session) → Each (λ (x : Session). InHand P (x .hand)) l → Each P (in-hands l)
+  unfolding in-hands
+  each-hands [] u = tt
+  each-hands (x ∷ l) u = one (x .hand) (u .0) (each-hands l (u .1))
+    where
+      one : (h : Option Hand) → InHand P h → Each P (in-hands l) → Each P (maybe (in-hands l) (λ b. b ∷ in-hands l) (maybe none (λ (h : Hand). some (h .object)) h))
+      one none v r = r
+      one (some h) v r = (v, r)
+
+  hands-each : (l : List Session) → Each P (in-hands l) → Each (λ (x : Session). InHand P (x .hand)) l
+  unfolding in-hands
+  hands-each [] u = tt
+  hands-each (x ∷ l) u = let r = one (x .hand) u in (r .0, hands-each l (r .1))
+    where
+      one : (h : Option Hand) → Each P (maybe (in-hands l) (λ b. b ∷ in-hands l) (maybe none (λ (h : Hand). some (h .object)) h)) → InHand P h × Each P (in-hands l)
+      one none v = (tt, v)
+      one (some h) v = v
+
+  pub each-everywhere : (d : Desk) → Each P (objects d) → Everywhere P d
+  unfolding objects
+  each-everywhere d u = record {
+    waiting = each-left P (d .queue) (in-hands (d .sessions)) u;
+    serving = hands-each (d .sessions) (each-right P (d .queue) (in-hands (d .sessions)) u);
+  }
+
+  pub everywhere-each : (d : Desk) → Everywhere P d → Each P (objects d)
+  unfolding objects
+  everywhere-each d u = each-append P (d .queue) (in-hands (d .sessions)) (u .waiting) (each-hands (d .sessions) (u .serving))
+
+  pub each-step : ((x : Life) (o : Object) → P o → P (living x o)) → (s : Setup) (d : Desk) (c : Call)
+      → ((named : Option ℕ) (q : Request) → c ≡ Call.add named q → add-refusal s d named q ≡ none → P (made s (toi-for d named) q))
+      → Each P (objects d) → Each P (objects (step s d c .1))
+  each-step stable s d c k u = everywhere-each (step s d c .1) (everywhere-step P stable s d c k (each-everywhere d u))
+
+  pub each-opening : (s : Setup) → Each P (objects (opening s))
+  each-opening s = rw none-yet tt
+
 -- an object whose E and B are at least 1
 abbrev pub Sized : Object → Type 0
 Sized o = (1 ≤ o .sizes .e) × (1 ≤ o .sizes .b)
 
-pub sound-sized : (z : Sizes) → sound-sizes z ≡ true → (1 ≤ z .e) × (1 ≤ z .b)
-unfolding sound-sizes
-sound-sized z h = (
-  leb-true 1 (z .e) (and-left (leb 1 (z .e)) (leb (z .e) largest-symbol) (and-left (within 1 largest-symbol (z .e)) (within 1 largest-block (z .b)) h)),
-  leb-true 1 (z .b) (and-left (leb 1 (z .b)) (leb (z .b) largest-block) (and-right (within 1 largest-symbol (z .e)) (within 1 largest-block (z .b)) h)),
-)
+-- what refusal 4 leaves
+pub in-range : (z : Sizes) (l : ℕ) → bad-blocks z l ≡ false → InRange z l
+unfolding bad-blocks
+in-range z l h =
+    let r = sizes-told z (not-false (sound-sizes z) (or-left (not (sound-sizes z)) (ltb most-blocks (blocks-of z l .blocks)) h)) in
+    record { symbol = r .symbol; block = r .block; count = ltb-false most-blocks (blocks-of z l .blocks) (or-right (not (sound-sizes z)) (ltb most-blocks (blocks-of z l .blocks)) h) }
 
 -- what an add admits has sound E and B
 added-sized : (s : Setup) (d : Desk) (named : Option ℕ) (q : Request) → add-refusal s d named q ≡ none → Sized (made s (toi-for d named) q)
-unfolding add-refusal bad-blocks made
-added-sized s d named q h =
-    let l4 : List (ℕ × Bool) = (5, bad-object-part s d (q .part)) ∷ (6, not-loose d named) ∷ (7, no-room d named) ∷ [] in
-    let r2 = first-none 2 (no-session d (q .priority)) ((3, d .complete) ∷ (4, bad-blocks (own-sizes s q) (q .part .size)) ∷ l4) h in
-    let r3 = first-none 3 (d .complete) ((4, bad-blocks (own-sizes s q) (q .part .size)) ∷ l4) (r2 .1) in
-    let r4 = first-none 4 (bad-blocks (own-sizes s q) (q .part .size)) l4 (r3 .1) in
-    sound-sized (own-sizes s q) (not-false (sound-sizes (own-sizes s q)) (or-left (not (sound-sizes (own-sizes s q))) (ltb most-blocks (blocks-of (own-sizes s q) (q .part .size) .blocks)) (r4 .0)))
+unfolding made
+added-sized s d named q h = let r = in-range (own-sizes s q) (q .part .size) (blocks-fit s d named q h) in (r .symbol .0, r .block .0)
 
 -- so every object has, at every moment
 pub sized-step : (s : Setup) (d : Desk) (c : Call) → Everywhere Sized d → Everywhere Sized (step s d c .1)

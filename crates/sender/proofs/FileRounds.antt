@@ -1,18 +1,14 @@
 -- However many rounds are allowed, a file session's run comes to the same: two are enough.
 use mathlib.Core.Path.{_≡_, refl}
-use mathlib.Core.Bool.{Bool, true, false, _&&_}
+use mathlib.Core.Bool.{Bool, true, false}
 use mathlib.Core.Option.{Option, none, some}
 use mathlib.Core.List.{List}
 use Prim.Native.Nat.{ℕ, suc, _≤_}
-use borrow.Author.Tests.{leb-true}
-use lib.Dec.{leb}
-use lib.ListN.{length}
-use Rattle.sizes.specs.Words.{if_then_else_, maybe, all, has, find, drop-first, within, Each}
-use Rattle.sizes.specs.Limits.{longest-store, most-sessions, largest-priority, largest-window, largest-fdt-id}
-use Rattle.sizes.proofs.Tests.{and-left, and-right}
+use Rattle.sizes.specs.Words.{if_then_else_, maybe, find, drop-first, Each}
 use Rattle.sizes.proofs.Lists.{each-find, each-at}
 use Rattle.lifecycle.specs.Lifecycle.{too-early}
-use Rattle.lifecycle.specs.Setup.{Setup, sound, sound-sizes, widths}
+use Rattle.lifecycle.specs.Setup.{Setup}
+use Rattle.lifecycle.proofs.SetupLaws.{told}
 use Rattle.sender.specs.Encoder.{Symbol, read}
 use Rattle.sender.specs.Session.{Object, Hand, Session, startable, begin, put-back, forced, Turn, idle, sent, serve, go-on, take-on, file-run}
 use Rattle.sender.specs.Desk.{opening, run}
@@ -56,21 +52,9 @@ module _ (s : Setup) (now : ℕ) (b : Bool) (w : 1 ≤ s .window) where
   rounds-enough n p q none u v = take-on-same p (rounds s p now b n) (λ q′. idle q′ none) q u
   rounds-enough n p q (some h) u v = go-on-same (rounds s p now b (suc n)) (take-on s p now b (λ q′. idle q′ none)) (λ q′ z. take-on-same p (rounds s p now b n) (λ q″. idle q″ none) q′ z) q h u v
 
--- an accepted set-up has a window of at least 1
-sound-window : (s : Setup) → sound s ≡ true → 1 ≤ s .window
-unfolding sound
-sound-window s h =
-    let a = within 1 most-sessions (length (s .priorities)) && all (λ p. leb p largest-priority) (s .priorities) in
-    let b = within 1 largest-window (s .window) in
-    let c = a && b && sound-sizes (s .sizes) in
-    let d = c && leb (s .object-store) longest-store && leb (s .fdt-store) longest-store in
-    let g = and-left c (leb (s .object-store) longest-store) (and-left (c && leb (s .object-store) longest-store) (leb (s .fdt-store) longest-store)
-    (and-left d (has (s .width) widths) (and-left (d && has (s .width) widths) (leb (s .first-id) largest-fdt-id) h))) in
-    leb-true 1 (s .window) (and-left (leb 1 (s .window)) (leb (s .window) largest-window) (and-right a b (and-left (a && b) (sound-sizes (s .sizes)) g)))
-
 -- so does every run of a file session, after any calls
 pub desk-rounds-enough : RoundsEnough
 desk-rounds-enough s h l i x n now blocked e =
     let u = sized-run s (opening s) l (sized-opening s) in
-    rounds-enough s now blocked (sound-window s h) n (x .priority) (run s (opening s) l .1 .queue) (x .hand) (u .waiting)
+    rounds-enough s now blocked (told s h .window .0) n (x .priority) (run s (opening s) l .1 .queue) (x .hand) (u .waiting)
     (each-at (λ (x : Session). InHand Sized (x .hand)) (run s (opening s) l .1 .sessions) i x e (u .serving))

@@ -4,7 +4,13 @@ pub mod Everywhere
 pub mod Rounds
 pub mod FileRounds
 pub mod Draft
+pub mod Weights
 pub mod Numbers
+pub mod Came
+pub mod PartLaws
+pub mod Hands
+pub mod FdtSide
+pub mod Reachable
 pub mod View
 pub mod Known
 pub mod ApartLaws

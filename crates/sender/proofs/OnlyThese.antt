@@ -8,13 +8,14 @@ use native.Mathlib.Omega.{arith}
 use lib.Dec.{eqb, leb}
 use borrow.Author.Tests.{eqb-true, eqb-false, eq-eqb, ne-eqb, not-true, leb-false, lt-leb}
 use lib.ListN.{length, length-append}
-use Rattle.sizes.specs.Words.{if_then_else_, maybe, keep, at, has, all, within, first-of, Each, times, one-if}
-use Rattle.lifecycle.specs.Setup.{Setup, sound-sizes, widths, sound}
-use Rattle.sizes.specs.Limits.{toi-entries, object-slots, longest-store, most-sessions, largest-priority, largest-window, largest-fdt-id}
+use Rattle.sizes.specs.Words.{if_then_else_, maybe, keep, at, has, first-of, Each, times, one-if}
+use Rattle.lifecycle.specs.Setup.{Setup, sound}
+use Rattle.sizes.specs.Limits.{toi-entries, object-slots}
 use Rattle.sender.specs.FdtSession.{FdtTurn, fdt-published, fdt-run}
 use Rattle.sender.specs.Session.{Session}
 use Rattle.sender.specs.Desk.{Desk, Request, Call, Answer, opening, objects, numbers, moved, numbered, with-fdt, all-published, removed, reserved, toi-for, admitted, not-loose, full, no-room, add-refusal, publish-refusal, draft-refusal, draft-of, Result, unless, ran, step, unloosed, fdt-ran}
 use Rattle.sender.specs.Apart.{owns, about, noted, key, call-by, answer-by, turned-away, calls, smooth, accepted, ends, adds, look, through, tie, claims, reserves, asks-loose, only, Alike, lone, Only, Demand-3}
+use Rattle.lifecycle.proofs.SetupLaws.{told}
 use Rattle.sender.proofs.Numbers.{Unique, unique-step, tois, times-without, admissible, loose-true}
 use Rattle.sender.proofs.Known.{Known, known-step, known-opening}
 use Rattle.sender.proofs.ApartLaws.{got, add-result, alike, hidden, owns-noted, key-below, any-times, answers-named}
@@ -714,19 +715,5 @@ module _ (s : Setup) (p : ℕ) (w : 16 ≤ s .width) where
 pub demand-3 : (s : Setup) (p : ℕ) → 16 ≤ s .width → Demand-3 s p
 demand-3 s p w = record { two-runs = alike s p w; only-these-calls = only-these s p w; numbers-got = λ l. answers-named s p [] (opening s) l (known-opening p s) }
 
--- a sound set-up's width is one of 16, 32, 48, 64
-has-least : (n w : ℕ) (l : List ℕ) → Each (λ u. n ≤ u) l → has w l ≡ true → n ≤ w
-has-least n w [] u h = absurd (false≢true h)
-has-least n w (a ∷ l) u h = (elim (eqb a w) as (λ b. eqb a w ≡ b → (b || has w l) ≡ true → n ≤ w)
-    [ true ↦ λ e h. subst (λ k. n ≤ k) (eqb-true a w e) (u .0) | false ↦ λ e h. has-least n w l (u .1) h ]) refl h
-
-sound-width : (s : Setup) → sound s ≡ true → 16 ≤ s .width
-unfolding sound
-sound-width s h = has-least 16 (s .width) widths (omega arith, (omega arith, (omega arith, (omega arith, tt)))) (and-right rest (has (s .width) widths) (and-left (rest && has (s .width) widths) (leb (s .first-id) largest-fdt-id) h))
-  where
-    rest : Bool
-    rest = within 1 most-sessions (length (s .priorities)) && all (λ p. leb p largest-priority) (s .priorities)
-        && within 1 largest-window (s .window) && sound-sizes (s .sizes) && leb (s .object-store) longest-store && leb (s .fdt-store) longest-store
-
 pub demand-3-sound : (s : Setup) → sound s ≡ true → (p : ℕ) → Demand-3 s p
-demand-3-sound s h p = demand-3 s p (sound-width s h)
+demand-3-sound s h p = demand-3 s p (told s h .width)

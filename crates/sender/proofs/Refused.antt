@@ -1,14 +1,29 @@
 -- A refused call leaves the desk as it was.
 use mathlib.Core.Path.{_≡_, refl, sym, _∙_}
-use mathlib.Core.Bool.{true, false, false≢true}
+use mathlib.Core.Bool.{Bool, true, false, false≢true}
 use mathlib.Core.Option.{Option, none, some}
 use mathlib.Core.List.{[], _∷_}
 use Prim.Native.Nat.{ℕ}
-use Rattle.sizes.specs.Words.{maybe, given, at, first-of}
+use Rattle.sizes.specs.Words.{if_then_else_, maybe, given, at, first-of}
 use Rattle.sender.specs.Session.{Session}
 use Rattle.sender.specs.Desk.{Desk, Call, Answer, full, not-loose, add-refusal, publish-refusal, draft-refusal, Result, unless, ran, step, unloosed, fdt-queued, fdt-ran}
 use Rattle.sender.specs.Apart.{refusal-in}
 use Rattle.sender.specs.Promises.{RefusedStays}
+
+-- what both cases have, a choice has
+pub either : {A : Type 0} (P : A → Type 0) (t : Bool) (a b : A) → P a → P b → P (if t then a else b)
+either P true a b u v = u
+either P false a b u v = v
+
+-- what the desk has, and the desk after a call that is not refused, the desk after the call has
+pub kept : (P : Desk → Type 0) (x : Option ℕ) (d : Desk) (r : Result) → P d → (x ≡ none → P (r .1)) → P (unless x d r .1)
+kept P none d r u h = h refl
+kept P (some n) d r u h = u
+
+-- the same of the result
+pub settled : (P : Result → Type 0) (x : Option ℕ) (d : Desk) (r : Result) → ((n : ℕ) → P (Answer.refused n, d)) → (x ≡ none → P r) → P (unless x d r)
+settled P none d r u h = h refl
+settled P (some n) d r u h = u n
 
 stays-unless : (x : Option ℕ) (d : Desk) (r : Result) → given (refusal-in (r .0)) ≡ false → given (refusal-in (unless x d r .0)) ≡ true → unless x d r .1 ≡ d
 stays-unless none d r h e = absurd (false≢true (sym h ∙ e))

@@ -6,6 +6,7 @@ use mathlib.Core.List.{List, [], _∷_, _++_, map}
 use Prim.Native.Nat.{ℕ, zero, suc, _+_, _≤_, _<_}
 use native.Mathlib.Omega.{arith}
 use lib.Dec.{eqb}
+use borrow.Author.Tests.{eqb-true}
 use lib.ListN.{length, set, getD, take}
 use Rattle.sizes.specs.Words.{if_then_else_, maybe, over, keep, any, find, drop-first, first-of, at, cut, place, Each, has, one-if, times}
 use Rattle.sizes.proofs.Tests.{Tested, pass, fail, tested, none≢some}
@@ -184,3 +185,9 @@ has-none n (a ∷ l) e = (elim (eqb a n) as (λ t. (t || has n l) ≡ false → 
 -- a number that is not in a list is not in it with a place left out
 pub has-cut : (n : ℕ) (l : List ℕ) (i : ℕ) → has n l ≡ false → has n (cut l i) ≡ false
 has-cut n l i e = times-has n (cut l i) (let a = has-none n l e in let b = times-cut n l i in omega arith)
+
+-- a number that is in the list has what each of it has
+pub each-has : (P : ℕ → Type 0) (n : ℕ) (l : List ℕ) → Each P l → has n l ≡ true → P n
+each-has P n [] u h = absurd (false≢true h)
+each-has P n (a ∷ l) u h = (elim (eqb a n) as (λ b. eqb a n ≡ b → (b || has n l) ≡ true → P n)
+    [ true ↦ λ e k. subst P (eqb-true a n e) (u .0) | false ↦ λ e k. each-has P n l (u .1) k ]) refl h
