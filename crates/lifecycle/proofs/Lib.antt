@@ -1,2 +1,4 @@
--- Laws of the middle layer's definitions; the layer above cites them.
+-- Laws of the middle layer; the layer above cites them.
 pub mod SetupLaws
+pub mod PartLaws
+pub mod FileDescLaws

@@ -1,6 +1,6 @@
 -- What an accepted set-up tells.
 use mathlib.Core.Path.{_≡_}
-use mathlib.Core.Bool.{Bool, true, _&&_}
+use mathlib.Core.Bool.{true, _&&_}
 use Prim.Native.Nat.{ℕ, _≤_}
 use native.Mathlib.Omega.{arith}
 use lib.Dec.{leb}
@@ -8,7 +8,7 @@ use borrow.Author.Tests.{leb-true}
 use lib.ListN.{length}
 use Rattle.sizes.specs.Words.{all, has, within}
 use Rattle.sizes.specs.Limits.{largest-symbol, largest-block, longest-store, most-sessions, largest-priority, largest-window, largest-fdt-id}
-use Rattle.sizes.specs.Partition.{Sizes}
+use Rattle.sizes.specs.declared.partition.Sizes.{Sizes}
 use Rattle.sizes.proofs.Tests.{and-left, and-right}
 use Rattle.sizes.proofs.Lists.{each-has}
 use Rattle.lifecycle.specs.Setup.{Setup, sound, sound-sizes, widths}

@@ -7,7 +7,8 @@ use lib.Dec.{eqb, ltb, leb}
 use lib.ListN.{length}
 use Rattle.sizes.specs.Words.{if_then_else_, maybe, given, collect, any}
 use Rattle.sizes.specs.Limits.{largest-fdt-id}
-use Rattle.lifecycle.specs.Parts.{Part, shares, past-store}
+use Rattle.lifecycle.specs.Parts.{shares, past-store}
+use Rattle.lifecycle.specs.declared.parts.Part.{Part}
 use Rattle.lifecycle.specs.Lifecycle.{Plan, Life, Target, unborn, started, finished, may-start}
 use Rattle.lifecycle.specs.Setup.{Setup}
 

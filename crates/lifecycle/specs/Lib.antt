@@ -1,5 +1,6 @@
--- Read in this order: Parts, Lifecycle, Setup, Fdt.
+-- The definition: Parts, Lifecycle, Setup, Fdt. The code's records in its words: FileDesc.
 pub mod Parts
 pub mod Lifecycle
 pub mod Setup
 pub mod Fdt
+pub mod FileDesc

@@ -2,10 +2,7 @@
 use mathlib.Core.Bool.{Bool}
 use Prim.Native.Nat.{ℕ, _+_, min, max}
 use lib.Dec.{ltb}
-
-pub record Part : Type 0 where
-  pub start : ℕ
-  pub size : ℕ
+use Rattle.lifecycle.specs.declared.parts.Part.{Part}
 
 -- the first place behind a part
 abbrev pub part-end : Part → ℕ

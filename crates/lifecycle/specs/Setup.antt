@@ -6,7 +6,8 @@ use lib.Dec.{ltb, leb}
 use lib.ListN.{length}
 use Rattle.sizes.specs.Words.{all, has, within}
 use Rattle.sizes.specs.Limits.{largest-symbol, largest-block, most-blocks, longest-store, most-sessions, largest-priority, largest-window, largest-fdt-id}
-use Rattle.sizes.specs.Partition.{Sizes, blocks-of}
+use Rattle.sizes.specs.Partition.{blocks-of}
+use Rattle.sizes.specs.declared.partition.Sizes.{Sizes}
 use Rattle.lifecycle.specs.Lifecycle.{Carousel}
 
 pub record Setup : Type 0 where

@@ -1,1 +1,3 @@
-// The middle layer: the life of an object, and the FDT. Its definition is in specs/; the code comes with it.
+// The middle layer: the life of an object, and the FDT. So far: parts of a store, and one object.
+pub mod filedesc;
+pub mod parts;

@@ -10,7 +10,8 @@ use borrow.Author.Tests.{eqb-true, eq-eqb, ne-eqb, leb-false, lt-leb}
 use lib.ListN.{length}
 use Rattle.sizes.specs.Words.{if_then_else_, maybe, given, any, at, first-of, over, Each}
 use Rattle.sizes.specs.Limits.{object-slots}
-use Rattle.lifecycle.specs.Parts.{Part, shares, past-store}
+use Rattle.lifecycle.specs.Parts.{shares, past-store}
+use Rattle.lifecycle.specs.declared.parts.Part.{Part}
 use Rattle.lifecycle.specs.Setup.{Setup, bad-blocks}
 use Rattle.sender.specs.Session.{Object, Hand, Session}
 use Rattle.sender.specs.Desk.{Desk, Request, Call, Answer, opening, in-hands, objects, is, reserved, toi-for, admitted, own-sizes, no-session, bad-object-part, not-loose, full, no-room, add-refusal, Result, unless, step}

@@ -5,7 +5,7 @@ use mathlib.Core.Option.{Option, none, some}
 use mathlib.Core.List.{List, [], _∷_}
 use Prim.Native.Nat.{ℕ}
 use Rattle.sizes.specs.Partition.{sbn, esi}
-use Rattle.lifecycle.specs.Parts.{Part}
+use Rattle.lifecycle.specs.declared.parts.Part.{Part}
 use Rattle.sender.specs.FdtSession.{Packet}
 use Rattle.sender.specs.Desk.{Call, Answer, opening}
 use Rattle.sender.specs.Apart.{owns, about, calls, answers, smooth, claims, reserves, asks-loose, only, lone}

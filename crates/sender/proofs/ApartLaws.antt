@@ -9,7 +9,7 @@ use lib.Dec.{eqb}
 use borrow.Author.Tests.{eqb-true, eqb-false, eq-eqb, ne-eqb, not-false, not-true}
 use lib.ListN.{length, set}
 use Rattle.sizes.specs.Words.{if_then_else_, maybe, given, any, at, has, find, first-of, within, over, Each, times, one-if}
-use Rattle.lifecycle.specs.Parts.{Part}
+use Rattle.lifecycle.specs.declared.parts.Part.{Part}
 use Rattle.sender.specs.Encoder.{Encoder, Symbol, fresh, read}
 use Rattle.lifecycle.specs.Lifecycle.{triggered}
 use Rattle.lifecycle.specs.Setup.{Setup, bad-blocks}

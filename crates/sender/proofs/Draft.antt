@@ -10,7 +10,7 @@ use lib.Dec.{eqb}
 use lib.ListN.{length}
 use Rattle.sizes.specs.Words.{if_then_else_, maybe, over, given}
 use Rattle.sizes.proofs.Tests.{and-left, none≢some}
-use Rattle.lifecycle.specs.Parts.{Part}
+use Rattle.lifecycle.specs.declared.parts.Part.{Part}
 use Rattle.lifecycle.specs.Lifecycle.{may-start, started, finished}
 use Rattle.lifecycle.specs.Setup.{Setup}
 use Rattle.lifecycle.specs.Fdt.{FdtState, Instance, Next, fdt-plan, queued, runs-out, needs-new, takes-draft, republished, front-taken, with-current, start-current, next-fdt, fdt-done}

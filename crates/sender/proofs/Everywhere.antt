@@ -9,7 +9,8 @@ use borrow.Author.Tests.{ltb-false, not-false}
 use lib.ListN.{length}
 use Rattle.sizes.specs.Words.{if_then_else_, maybe, given, keep, at, find, drop-first, first-of}
 use Rattle.sizes.specs.Limits.{most-blocks}
-use Rattle.sizes.specs.Partition.{Sizes, blocks-of}
+use Rattle.sizes.specs.Partition.{blocks-of}
+use Rattle.sizes.specs.declared.partition.Sizes.{Sizes}
 use Rattle.lifecycle.proofs.SetupLaws.{sizes-told}
 use Rattle.sender.specs.Encoder.{Symbol, read}
 use Rattle.lifecycle.specs.Lifecycle.{Life, announced, triggered, too-early, expired, finished, started}

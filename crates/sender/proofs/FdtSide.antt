@@ -12,7 +12,8 @@ use Rattle.sizes.specs.Words.{if_then_else_, maybe, given, collect, any, at, fi
 use Rattle.sizes.specs.Limits.{waiting-fdts}
 use Rattle.sizes.proofs.Tests.{or-left, or-right, Tested, pass, fail, tested}
 use Rattle.sizes.proofs.Lists.{each-append, first-none}
-use Rattle.lifecycle.specs.Parts.{Part, part-end, shares, past-store}
+use Rattle.lifecycle.specs.Parts.{part-end, shares, past-store}
+use Rattle.lifecycle.specs.declared.parts.Part.{Part}
 use Rattle.lifecycle.specs.Lifecycle.{started, finished, may-start, unborn}
 use Rattle.lifecycle.specs.Setup.{Setup, bad-blocks}
 use Rattle.lifecycle.specs.Fdt.{Instance, FdtState, Next, fdt-plan, fdt-parts, bad-fdt-part, queued, needs-new, takes-draft, republished, front-taken, with-current, start-current, next-fdt, fdt-done}

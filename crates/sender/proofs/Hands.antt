@@ -9,11 +9,12 @@ use lib.Dec.{eqb}
 use borrow.Author.Tests.{eqb-true}
 use lib.ListN.{length, length-append, length-set}
 use Rattle.sizes.specs.Words.{if_then_else_, maybe, given, at, cut, find, drop-first, first-of, Each}
-use Rattle.sizes.specs.Partition.{Sizes, blocks-of}
+use Rattle.sizes.specs.Partition.{blocks-of}
+use Rattle.sizes.specs.declared.partition.Sizes.{Sizes}
 use Rattle.sizes.specs.declared.partition.Partition.{Partition}
 use Rattle.sizes.proofs.Tests.{and-left}
 use Rattle.sizes.proofs.Lists.{each-map, each-set, each-at, found, map-hidden, map-set-same, each-all}
-use Rattle.lifecycle.specs.Parts.{Part}
+use Rattle.lifecycle.specs.declared.parts.Part.{Part}
 use Rattle.lifecycle.specs.Lifecycle.{may-start, too-early}
 use Rattle.lifecycle.specs.Setup.{Setup}
 use Rattle.sender.specs.Encoder.{Open, Encoder, Symbol, opened, drained, fill, wrapped, emptied, without, advanced, symbol-of, visit, stopping, read}

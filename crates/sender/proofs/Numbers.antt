@@ -14,7 +14,7 @@ use Rattle.sizes.specs.Toi.{Toi, first-toi, next-toi}
 use Rattle.sizes.proofs.Tests.{or-left, or-right, Tested, pass, fail, tested, none≢some}
 use Rattle.sizes.proofs.Lists.{first-none, has-times, times-has, has-none}
 use Rattle.sizes.proofs.ToiLaws.{next-range, next-free, first-range}
-use Rattle.lifecycle.specs.Parts.{Part}
+use Rattle.lifecycle.specs.declared.parts.Part.{Part}
 use Rattle.lifecycle.specs.Setup.{Setup, bad-blocks}
 use Rattle.sender.specs.FdtSession.{fdt-run}
 use Rattle.sender.specs.Session.{Object, Session}

@@ -11,7 +11,8 @@ use Rattle.sizes.specs.Words.{any, at, one-if, Each}
 use Rattle.sizes.specs.Limits.{longest-store}
 use Rattle.sizes.proofs.Tests.{and-left, and-right, or-left, or-right, Tested, pass, fail, tested, none≢some}
 use Rattle.sizes.proofs.Lists.{any-map, each-at}
-use Rattle.lifecycle.specs.Parts.{Part, part-end, shares, past-store}
+use Rattle.lifecycle.specs.Parts.{part-end, shares, past-store}
+use Rattle.lifecycle.specs.declared.parts.Part.{Part}
 use Rattle.lifecycle.specs.Setup.{Setup}
 use Rattle.sender.specs.Session.{Object}
 use Rattle.sender.specs.Desk.{Desk, Request, Call, objects, toi-for, made, bad-object-part, add-refusal, step}

@@ -10,12 +10,13 @@ use lib.Dec.{ltb}
 use borrow.Author.Tests.{le-ltb, lt-leb}
 use lib.ListN.{length}
 use Rattle.sizes.specs.Words.{if_then_else_, maybe, given, at, cut}
-use Rattle.sizes.specs.Partition.{Sizes, sbn, esi, blocks-of, symbols-in}
+use Rattle.sizes.specs.Partition.{sbn, esi, blocks-of, symbols-in}
+use Rattle.sizes.specs.declared.partition.Sizes.{Sizes}
 use Rattle.sizes.specs.declared.partition.Partition.{Partition}
 use Rattle.sizes.proofs.Arithmetic.{below-or}
 use Rattle.sizes.proofs.PartitionLaws.{parted, empty-exactly}
 use Rattle.sizes.proofs.Tests.{none≢some}
-use Rattle.lifecycle.specs.Parts.{Part}
+use Rattle.lifecycle.specs.declared.parts.Part.{Part}
 use Rattle.lifecycle.specs.Lifecycle.{Target, pace-of, too-early, may-stop, started, is-last}
 use Rattle.lifecycle.specs.Fdt.{Instance, Next, next-fdt, fdt-done}
 use Rattle.sender.specs.Encoder.{Open, Encoder, Symbol, fresh, opened, drained, fill, wrapped, emptied, without, advanced, symbol-of, visit, stopping, read}

@@ -7,9 +7,10 @@ use lib.Dec.{eqb, leb}
 use lib.ListN.{length, set}
 use Rattle.sizes.specs.Words.{if_then_else_, maybe, given, collect, keep, any, at, has, find, first-of}
 use Rattle.sizes.specs.Limits.{toi-entries, object-slots, waiting-fdts}
-use Rattle.sizes.specs.Partition.{Sizes}
+use Rattle.sizes.specs.declared.partition.Sizes.{Sizes}
 use Rattle.sizes.specs.Toi.{first-toi, next-toi}
-use Rattle.lifecycle.specs.Parts.{Part, shares, past-store}
+use Rattle.lifecycle.specs.Parts.{shares, past-store}
+use Rattle.lifecycle.specs.declared.parts.Part.{Part}
 use Rattle.lifecycle.specs.Lifecycle.{Plan, unborn, announced, triggered}
 use Rattle.lifecycle.specs.Setup.{Setup, bad-blocks, sound}
 use Rattle.lifecycle.specs.Fdt.{bad-fdt-part}

@@ -6,11 +6,12 @@ use Prim.Native.Nat.{ℕ, zero, suc, _+_, _-_, _*_, min}
 use lib.Dec.{eqb, ltb, leb}
 use lib.ListN.{length, set}
 use Rattle.sizes.specs.Words.{if_then_else_, maybe, all, at, cut}
-use Rattle.sizes.specs.Partition.{Sizes, sbn, esi, blocks-of, symbols-in, first-symbol}
+use Rattle.sizes.specs.Partition.{sbn, esi, blocks-of, symbols-in, first-symbol}
+use Rattle.sizes.specs.declared.partition.Sizes.{Sizes}
 use Rattle.sizes.specs.declared.numbers.Sbn.{Sbn}
 use Rattle.sizes.specs.declared.numbers.Esi.{Esi}
 use Rattle.sizes.specs.declared.partition.Partition.{Partition}
-use Rattle.lifecycle.specs.Parts.{Part}
+use Rattle.lifecycle.specs.declared.parts.Part.{Part}
 
 -- an open block, and the next symbol of it
 pub record Open : Type 0 where

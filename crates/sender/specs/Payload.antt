@@ -4,7 +4,8 @@ use mathlib.Core.List.{List}
 use Prim.Native.Nat.{ℕ}
 use lib.ListN.{length, take, drop}
 use Rattle.sizes.specs.Words.{if_then_else_, maybe}
-use Rattle.lifecycle.specs.Parts.{Part, past-store}
+use Rattle.lifecycle.specs.Parts.{past-store}
+use Rattle.lifecycle.specs.declared.parts.Part.{Part}
 use Rattle.sender.specs.FdtSession.{Packet}
 
 pub data Store : Type 0 where

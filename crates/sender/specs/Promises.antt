@@ -7,8 +7,8 @@ use Prim.Native.Nat.{ℕ, zero, suc, _+_, _%_, _≤_}
 use lib.ListN.{length}
 use Rattle.sizes.specs.Words.{if_then_else_, maybe, given, at}
 use Rattle.sizes.specs.Limits.{largest-fdt-id}
-use Rattle.sizes.specs.Partition.{Sizes}
-use Rattle.lifecycle.specs.Parts.{Part}
+use Rattle.sizes.specs.declared.partition.Sizes.{Sizes}
+use Rattle.lifecycle.specs.declared.parts.Part.{Part}
 use Rattle.lifecycle.specs.Setup.{Setup, sound}
 use Rattle.sender.specs.Encoder.{Encoder, Symbol, fresh, visit, stopping, read}
 use Rattle.sender.specs.FdtSession.{Packet, Fdt, FdtTurn, fdt-attempt, fdt-idle, fdt-run}

@@ -5,8 +5,8 @@ use mathlib.Core.List.{List, [], _∷_, _++_}
 use Prim.Native.Nat.{ℕ}
 use lib.Dec.{eqb}
 use Rattle.sizes.specs.Words.{if_then_else_, maybe, find, drop-first}
-use Rattle.sizes.specs.Partition.{Sizes}
-use Rattle.lifecycle.specs.Parts.{Part}
+use Rattle.sizes.specs.declared.partition.Sizes.{Sizes}
+use Rattle.lifecycle.specs.declared.parts.Part.{Part}
 use Rattle.lifecycle.specs.Lifecycle.{Plan, Life, Pace, started, finished, expired, is-last, may-start, may-stop, pace-of, paced, too-early}
 use Rattle.lifecycle.specs.Setup.{Setup}
 use Rattle.sender.specs.Encoder.{Encoder, Symbol, fresh, read}

@@ -5,9 +5,10 @@ use mathlib.Core.Option.{Option, none, some}
 use mathlib.Core.List.{List, [], _∷_, map}
 use Prim.Native.Nat.{ℕ, zero, suc, _-_, _^_}
 use Rattle.sizes.specs.Words.{maybe, one-if}
-use Rattle.sizes.specs.Partition.{Sizes, sbn, blocks-of, block-length}
+use Rattle.sizes.specs.Partition.{sbn, blocks-of, block-length}
+use Rattle.sizes.specs.declared.partition.Sizes.{Sizes}
 use Rattle.sizes.specs.Toi.{first-toi, next-toi}
-use Rattle.lifecycle.specs.Parts.{Part}
+use Rattle.lifecycle.specs.declared.parts.Part.{Part}
 use Rattle.lifecycle.specs.Lifecycle.{Carousel, Target, tick-of}
 use Rattle.lifecycle.specs.Setup.{Setup}
 use Rattle.lifecycle.specs.Fdt.{runs-out}

@@ -7,9 +7,11 @@ use Prim.Native.Nat.{ℕ, _≤_}
 use lib.ListN.{length}
 use Rattle.sizes.specs.Words.{if_then_else_, maybe, has, times, Each}
 use Rattle.sizes.specs.Limits.{largest-symbol, largest-block, most-blocks, toi-entries, object-slots, waiting-fdts, longest-store}
-use Rattle.sizes.specs.Partition.{Sizes, blocks-of}
+use Rattle.sizes.specs.Partition.{blocks-of}
+use Rattle.sizes.specs.declared.partition.Sizes.{Sizes}
 use Rattle.sizes.specs.Toi.{Toi}
-use Rattle.lifecycle.specs.Parts.{Part, part-end, shares}
+use Rattle.lifecycle.specs.Parts.{part-end, shares}
+use Rattle.lifecycle.specs.declared.parts.Part.{Part}
 use Rattle.lifecycle.specs.Lifecycle.{unborn}
 use Rattle.lifecycle.specs.Setup.{Setup, bad-blocks, sound}
 use Rattle.lifecycle.specs.Fdt.{Instance, fdt-parts}

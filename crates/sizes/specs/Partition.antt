@@ -8,6 +8,7 @@ use Rattle.sizes.specs.Limits.{wide}
 use Rattle.sizes.specs.declared.numbers.Sbn.{Sbn}
 use Rattle.sizes.specs.declared.numbers.Esi.{Esi}
 use Rattle.sizes.specs.declared.partition.Partition.{Partition}
+use Rattle.sizes.specs.declared.partition.Sizes.{Sizes}
 use Rattle.sizes.specs.declared.partition.BlockLength.{BlockLength}
 use Rattle.sizes.specs.declared.partition.BlockLength.the-variants.{Bytes, Nothing}
 use Rattle.sizes.specs.declared.partition.Checked.{Checked}
@@ -38,12 +39,7 @@ partition-of b l e =
     if eqb b 0 || eqb e 0 || eqb (symbols-of l e) 0 then no-blocks
     else split (symbols-of l e) (ceil (symbols-of l e) b)
 
--- symbol length E and largest block B, as the set-up or an object names them
-pub record Sizes : Type 0 where
-  pub e : ℕ
-  pub b : ℕ
-
--- the partition of l bytes by them
+-- the partition of l bytes by the E and B that the set-up or an object names
 abbrev pub blocks-of : Sizes → ℕ → Partition
 blocks-of z l = partition-of (z .b) l (z .e)
 

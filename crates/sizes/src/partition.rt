@@ -5,6 +5,13 @@ ghost use Rattle.sizes.specs.Words.{ceil};
 ghost use Rattle.sizes.specs.Partition.{no-blocks, partition-of, block-length, sizes-given, length-said, checked, reach};
 use crate::numbers::Sbn;
 
+// Symbol length E and largest block B, as the set-up or an object names them.
+#[repr(C)]
+pub struct Sizes {
+    pub e: u64,
+    pub b: u64,
+}
+
 // Blocks 0 to bigs - 1 have `large` symbols, the others `small`.
 #[repr(C)]
 pub struct Partition {
@@ -26,11 +33,13 @@ enum Checked {
     Past,
 }
 
-// a / b, rounded up.
-fn div_ceil(a: u64, b: u64) -> u64
-    requires { ⌜ 0 < b ⌝ }
+// a / b, rounded up; 0 where b is 0.
+pub fn div_ceil(a: u64, b: u64) -> u64
     ensures { λ r. ⌜ r ≡ ceil a b ⌝ }
 {
+    if b == 0 {
+        return 0;
+    }
     let q = a / b;
     if a % b == 0 {
         return q;

@@ -43,7 +43,7 @@ div-ceil-requires-2 : tie.Need-div-ceil-requires-2
 div-ceil-requires-2 c κs = search needs
 
 div-ceil-requires-3 : tie.Need-div-ceil-requires-3
-div-ceil-requires-3 c κs = some-blocks c
+div-ceil-requires-3 c κs = search needs
 
 div-small : tie.Need-div-small
 div-small c = some-blocks (c .before)

@@ -1,0 +1,12 @@
+use borrow.Author.Needs.{needs}
+use Rattle.lifecycle.proofs.filedesc.FileDesc.transfer_done.Statement.{statement}
+use Rattle.lifecycle.proofs.filedesc.FileDesc.transfer_done.Tie as tie
+
+done-requires : tie.Need-done-requires
+done-requires c κs = search needs
+
+returns : tie.Need-returns
+returns c = rw (c .before .before .before .done .ensures)
+
+pub transfer-done-spec : {M : Type 1} → statement M
+transfer-done-spec = tie.close (tie.spec done-requires returns)
