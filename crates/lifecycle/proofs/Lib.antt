@@ -2,3 +2,12 @@
 pub mod SetupLaws
 pub mod PartLaws
 pub mod FileDescLaws
+pub mod AnnounceLaws
+pub mod FdtFacts
+pub mod FdtLaws
+pub mod FdtValid
+pub mod FdtViews
+pub mod FdtByNumber
+pub mod FdtSearches
+pub mod FdtAdds
+pub mod PublishLaws

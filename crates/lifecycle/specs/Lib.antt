@@ -4,3 +4,6 @@ pub mod Lifecycle
 pub mod Setup
 pub mod Fdt
 pub mod FileDesc
+pub mod Announce
+pub mod Slots
+pub mod FdtCalls

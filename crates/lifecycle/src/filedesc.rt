@@ -136,7 +136,7 @@ impl Rule {
     }
 
     // May a transfer start now?
-    fn may_start_now(self, x: Life, now: u64) -> bool
+    pub fn may_start_now(self, x: Life, now: u64) -> bool
         ensures { λ r. ⌜ r ≡ may-start (plan-of self) now (life-of x) ⌝ }
     {
         if !x.published {
@@ -395,7 +395,7 @@ impl FileDesc {
 
 impl Life {
     // A transfer starts.
-    fn started(self, r: Rule, now: u64) -> Life
+    pub fn started(self, r: Rule, now: u64) -> Life
         ensures { λ s. ⌜ s ≡ started-life r now self ⌝ }
     {
         let begun = Life {
@@ -416,7 +416,7 @@ impl Life {
     }
 
     // A transfer has ended. The counts stop at their largest numbers.
-    fn done(self, now: u64) -> Life
+    pub fn done(self, now: u64) -> Life
         ensures { λ s. ⌜ s ≡ done-life now self ⌝ }
     {
         Life {

@@ -1,3 +1,6 @@
-// The middle layer: the life of an object, and the FDT. So far: parts of a store, and one object.
+// The middle layer: the life of an object, and the FDT.
+pub mod announce;
+pub mod fdt;
 pub mod filedesc;
 pub mod parts;
+pub mod slots;

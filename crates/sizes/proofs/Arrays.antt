@@ -1,14 +1,14 @@
--- Laws of arrays with a length: a search over the first n elements, a gap that is closed.
+-- Laws of arrays with a length: a search over the first n elements, a gap that is closed, a change of each element.
 use mathlib.Core.Path.{_≡_, refl, _∙_, ap}
 use mathlib.Core.Bool.{Bool, true, false}
 use mathlib.Core.Option.{Option, none, some}
-use mathlib.Core.List.{List, [], _∷_, _++_}
+use mathlib.Core.List.{List, [], _∷_, _++_, map}
 use Prim.Native.Nat.{ℕ, zero, suc, _+_, _-_, _≤_, _<_}
 use native.Mathlib.Omega.{arith}
 use native.Mathlib.Numerals.{add-one}
 use lib.ListN.{length, set, getD, take, drop, drop-of-length-le}
 use lib.Seq.{drop-cons, getD-take, length-take-le}
-use Rattle.sizes.specs.Words.{over, any, cut, place, shut}
+use Rattle.sizes.specs.Words.{over, any, cut, place, shut, Each}
 
 -- a search from the front over the first n elements: what is left to do after i turns comes to the same
 module _ {A : Type 0} (ok : A → Bool) (n : ℕ) (l : List A) (long : n ≤ length l) (i : ℕ) where
@@ -56,6 +56,13 @@ pub place-miss : {A : Type 0} (ok : A → Bool) (n : ℕ) (l : List A) (long : n
 place-miss ok n l long i z h e =
     rw (next ok n l long i z h, e)
     (over-over (λ k. i + k) suc (λ k. i + 1 + k) (λ k. omega arith) (place ok (drop (i + 1) (take n l))))
+
+-- an element of the first n has what each of them has
+pub each-get : {A : Type 0} (P : A → Type 0) (n : ℕ) (l : List A) → n ≤ length l → (i : ℕ) (z : A) → i < n → Each P (take n l) → P (getD l i z)
+each-get P zero l long i z h u = absurd (omega arith)
+each-get P (suc n) [] long i z h u = absurd (omega arith)
+each-get P (suc n) (a ∷ l) long zero z h u = u .0
+each-get P (suc n) (a ∷ l) long (suc i) z h u = each-get P n l (omega arith) i z (omega arith) (u .1)
 
 module _ {A : Type 0} (z : A) where
   -- an element past the end, whatever stands behind
@@ -114,3 +121,27 @@ module _ {A : Type 0} (z : A) where
   shut-end (x ∷ []) zero h = refl
   shut-end (x ∷ y ∷ l) zero h = absurd (omega arith)
   shut-end (x ∷ l) (suc j) h = ap (λ t. x ∷ t) (shut-end l j (omega arith))
+
+-- a loop that puts f of each element in its place, one a turn: what it has after i turns
+module _ {A : Type 0} (f : A → A) where
+  abbrev pub mapped : List A → ℕ → List A
+  mapped l i = map f (take i l) ++ drop i l
+
+  mapped-at : (l : List A) (i : ℕ) (z : A) → i < length l → getD (mapped l i) i z ≡ getD l i z
+  mapped-at [] i z h = absurd (omega arith)
+  mapped-at (x ∷ l) zero z h = refl
+  mapped-at (x ∷ l) (suc i) z h = mapped-at l i z (omega arith)
+
+  mapped-suc : (l : List A) (i : ℕ) (z : A) → i < length l → set (mapped l i) i (f (getD l i z)) ≡ mapped l (suc i)
+  mapped-suc [] i z h = absurd (omega arith)
+  mapped-suc (x ∷ l) zero z h = refl
+  mapped-suc (x ∷ l) (suc i) z h = ap (λ t. f x ∷ t) (mapped-suc l i z (omega arith))
+
+  pub mapped-more : (l : List A) (i : ℕ) {m : List A} {x : A} (z : A) → i < length l → m ≡ mapped l i → x ≡ f (getD m i z) → set m i x ≡ mapped l (i + 1)
+  mapped-more l i z h e q = rw (q, e, mapped-at, add-one) (mapped-suc l i z h)
+
+  pub mapped-all : (l : List A) (i : ℕ) → length l ≤ i → mapped l i ≡ map f l
+  mapped-all [] zero h = refl
+  mapped-all [] (suc i) h = refl
+  mapped-all (x ∷ l) zero h = absurd (omega arith)
+  mapped-all (x ∷ l) (suc i) h = ap (λ t. f x ∷ t) (mapped-all l i (omega arith))

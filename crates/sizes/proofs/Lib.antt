@@ -2,8 +2,11 @@
 pub mod Tests
 pub mod Lists
 pub mod Arrays
+pub mod Tables
+pub mod Collects
 pub mod Arithmetic
 pub mod Lengths
 pub mod PartitionLaws
 pub mod ToiLaws
 pub mod AllocatorLaws
+pub mod AllocatorViews

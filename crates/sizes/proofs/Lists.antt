@@ -8,7 +8,7 @@ use native.Mathlib.Omega.{arith}
 use lib.Dec.{eqb}
 use borrow.Author.Tests.{eqb-true}
 use lib.ListN.{length, set, getD, take}
-use Rattle.sizes.specs.Words.{if_then_else_, maybe, over, keep, any, find, drop-first, first-of, at, cut, place, Each, has, one-if, times}
+use Rattle.sizes.specs.Words.{if_then_else_, over, keep, any, find, drop-first, first-of, at, cut, place, Each, has, one-if, times}
 use Rattle.sizes.proofs.Tests.{Tested, pass, fail, tested, none≢some}
 
 -- what a search comes to
@@ -16,6 +16,8 @@ pub record Hit {A : Type 0} (ok : A → Bool) (l : List A) (n : ℕ) (a : A) : T
   pub found : place ok l ≡ some n
   pub stands : at l n ≡ some a
   pub passes : ok a ≡ true
+  pub first : find ok l ≡ some a
+  pub rest : drop-first ok l ≡ cut l n
 
 pub data Sought {A : Type 0} (ok : A → Bool) (l : List A) : Type 0 where
   hit : (n : ℕ) (a : A) → Hit ok l n a → Sought ok l
@@ -26,13 +28,41 @@ sought ok [] = miss refl (λ i a e. absurd (none≢some e))
 sought ok (a ∷ l) = go (tested (ok a)) (sought ok l)
   where
     go : Tested (ok a) → Sought ok l → Sought ok (a ∷ l)
-    go (pass e) r = hit 0 a (record { found = rw e; stands = refl; passes = e })
-    go (fail e) (hit n b h) = hit (suc n) b (record { found = rw (e, h .found); stands = h .stands; passes = h .passes })
+    go (pass e) r = hit 0 a (record { found = rw e; stands = refl; passes = e; first = rw e; rest = rw e })
+    go (fail e) (hit n b h) = hit (suc n) b (record {
+      found = rw (e, h .found);
+      stands = h .stands;
+      passes = h .passes;
+      first = rw e (h .first);
+      rest = rw e (ap (λ r. a ∷ r) (h .rest));
+    })
     go (fail e) (miss p u) = miss (rw (e, p)) (λ i b q. none-at i b q)
       where
         none-at : (i : ℕ) (b : _) → at (a ∷ l) i ≡ some b → ok b ≡ false
         none-at zero b q = let s : a ≡ b = cc in subst (λ x. ok x ≡ false) s e
         none-at (suc i) b q = u i b q
+
+-- where a search said that it stands
+pub found-first : {A : Type 0} (ok : A → Bool) (l : List A) (n : ℕ) → place ok l ≡ some n → (a : A) × Hit ok l n a
+found-first ok l n e = go (sought ok l)
+  where
+    go : Sought ok l → (a : _) × Hit ok l n a
+    go (hit m a h) = let f = h .found in let s : m ≡ n = cc in (a, subst (λ k. Hit ok l k a) s h)
+    go (miss p u) = absurd (none≢some (sym p ∙ e))
+
+-- none passes
+pub none-found : {A : Type 0} (ok : A → Bool) (l : List A) → ((i : ℕ) (a : A) → at l i ≡ some a → ok a ≡ false) → (find ok l ≡ none) × (drop-first ok l ≡ l)
+none-found ok [] h = (refl, refl)
+none-found ok (a ∷ l) h =
+    let r = none-found ok l (λ i. h (suc i)) in
+    (rw (h 0 a refl) (r .0), rw (h 0 a refl) (ap (λ t. a ∷ t) (r .1)))
+
+pub found-none : {A : Type 0} (ok : A → Bool) (l : List A) → place ok l ≡ none → (find ok l ≡ none) × (drop-first ok l ≡ l)
+found-none ok l e = go (sought ok l)
+  where
+    go : Sought ok l → (find ok l ≡ none) × (drop-first ok l ≡ l)
+    go (hit n a h) = absurd (none≢some (sym e ∙ h .found))
+    go (miss p u) = none-found ok l u
 
 pub at-take : {A : Type 0} (l : List A) (m n : ℕ) (a : A) → at (take m l) n ≡ some a → n < m
 at-take l zero n a e = absurd (none≢some e)

@@ -1,9 +1,11 @@
 -- Words that the definitions are written in: a choice by a test, a rounded quotient, and some functions on lists.
+use mathlib.Core.Path.{_≡_}
 use mathlib.Core.Bool.{Bool, true, false, _&&_, _||_}
 use mathlib.Core.Option.{Option, none, some}
 use mathlib.Core.List.{List, [], _∷_, _++_}
 use Prim.Native.Nat.{ℕ, zero, suc, _+_, _-_, _/_}
 use lib.Dec.{eqb, leb}
+use lib.ListN.{getD}
 
 infix 1 if_then_else_
 -- a choice by a test
@@ -108,6 +110,16 @@ one-if false = 0
 abbrev pub times : ℕ → List ℕ → ℕ
 times n [] = 0
 times n (a ∷ l) = one-if (eqb a n) + times n l
+
+module _ {A : Type 0} where
+  -- how many pass
+  abbrev pub tally : (A → Bool) → List A → ℕ
+  tally p [] = 0
+  tally p (a ∷ t) = one-if (p a) + tally p t
+
+  -- a list of places has each place of a table that passes once, and no other; z stands past the table's end
+  abbrev pub Counts : A → (A → Bool) → List A → List ℕ → Type 0
+  Counts z p t l = (k : ℕ) → times k l ≡ one-if (p (getD t k z))
 
 -- f 0 + f 1 + .. + f (n - 1)
 abbrev pub sum-below : ℕ → (ℕ → ℕ) → ℕ

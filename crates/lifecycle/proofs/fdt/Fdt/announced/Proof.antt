@@ -1,0 +1,12 @@
+use borrow.Author.Needs.{needs}
+use Rattle.lifecycle.proofs.fdt.Fdt.announced.Statement.{statement}
+use Rattle.lifecycle.proofs.fdt.Fdt.announced.Tie as tie
+
+mark-published-requires : tie.Need-mark-published-requires
+mark-published-requires c κs = search needs
+
+returns : tie.Need-returns
+returns c = rw (c .before .before .before .mark-published .ensures)
+
+pub announced-spec : {M : Type 1} → statement M
+announced-spec = tie.close (tie.spec mark-published-requires returns)

@@ -1,0 +1,50 @@
+use borrow.Author.Needs.{needs}
+use Rattle.lifecycle.specs.FdtCalls.{back-of}
+use Rattle.lifecycle.proofs.fdt.Fdt.back.Statement.{statement}
+use Rattle.lifecycle.proofs.fdt.Fdt.back.Tie as tie
+
+mul-sent : tie.Need-mul-sent
+mul-sent c = search needs
+
+array-copy-out-sent : tie.Need-array-copy-out-sent
+array-copy-out-sent c = search needs
+
+transfer-done-requires : tie.Need-transfer-done-requires
+transfer-done-requires c κs = search needs
+
+sub-t14 : tie.Need-sub-t14
+sub-t14 c = search needs
+
+mul-slots : tie.Need-mul-slots
+mul-slots c = search needs
+
+array-set-from-slots : tie.Need-array-set-from-slots
+array-set-from-slots c = search needs
+
+mul-queue : tie.Need-mul-queue
+mul-queue c = search needs
+
+array-write-queue : tie.Need-array-write-queue
+array-write-queue c = search needs
+
+add-t10 : tie.Need-add-t10
+add-t10 c = search needs
+
+returns : tie.Need-returns
+unfolding back-of
+returns c = rw (c .before .before .before .before .before .transfer-done .ensures)
+
+pub back-spec : {M : Type 1} → statement M
+back-spec =
+    tie.close
+    (tie.spec
+    mul-sent
+    array-copy-out-sent
+    transfer-done-requires
+    sub-t14
+    mul-slots
+    array-set-from-slots
+    mul-queue
+    array-write-queue
+    add-t10
+    returns)

@@ -1,0 +1,69 @@
+use mathlib.Core.Path.{_≡_, sym, _∙_, ap}
+use Prim.Native.Nat.{_-_, _≤_}
+use native.Mathlib.Omega.{arith}
+use borrow.Author.Needs.{needs}
+use lib.ListN.{length}
+use lib.Seq.{take-all}
+use Rattle.sizes.specs.Words.{place}
+use Rattle.sizes.proofs.Arrays.{ahead, place-start, place-hit, place-miss, place-end}
+use Rattle.lifecycle.specs.Slots.{no-slot, is-listed-as}
+use Rattle.lifecycle.proofs.slots.listed_slot.Statement.{statement}
+use Rattle.lifecycle.proofs.slots.listed_slot.Tie as tie
+
+abbrev Inv-loop : tie.InvT-loop
+Inv-loop toi slots i₀ i = (long : 32 ≤ length slots) × (i ≤ 32) × (ahead (is-listed-as toi) 32 slots long i ≡ place (is-listed-as toi) slots)
+
+abbrev μ-loop : tie.MeasureT-loop
+μ-loop toi slots i₀ i = 32 - i
+
+loop-holds : tie.Need-loop-holds Inv-loop μ-loop
+loop-holds c =
+    let g : length (c .args .t1) ≡ 32 = c .good .0 .1 .0 .1 in
+    let long : 32 ≤ length (c .args .t1) = omega arith in
+    (long, search needs, place-start (is-listed-as (c .args .toi)) 32 (c .args .t1) long ∙ ap (place (is-listed-as (c .args .toi))) (take-all 32 (c .args .t1) (omega arith)))
+
+mul-s : tie.Need-mul-s Inv-loop μ-loop
+mul-s c = search needs
+
+array-copy-out-s : tie.Need-array-copy-out-s Inv-loop μ-loop
+array-copy-out-s c = search needs
+
+is-listed-slot-requires : tie.Need-is-listed-slot-requires Inv-loop μ-loop
+is-listed-slot-requires c κs = search needs
+
+returns : tie.Need-returns Inv-loop μ-loop
+returns c =
+    let l = c .before .before .before .before in
+    sym (place-hit (is-listed-as (l .before .args .toi)) 32 (l .before .args .t1) (l .loop .inv .0) (l .loop .i) no-slot (omega arith) (sym (c .before .is-listed-slot .ensures) ∙ c .if1 .taken)) ∙ l .loop .inv .2
+
+add-i : tie.Need-add-i Inv-loop μ-loop
+add-i c = search needs
+
+loop-less : tie.Need-loop-less Inv-loop μ-loop
+loop-less c = search needs
+
+loop-again : tie.Need-loop-again Inv-loop μ-loop
+loop-again c =
+    let l = c .before .before .before .before in
+    (l .loop .inv .0, search needs, sym (place-miss (is-listed-as (l .before .args .toi)) 32 (l .before .args .t1) (l .loop .inv .0) (l .loop .i) no-slot (omega arith) (sym (c .before .is-listed-slot .ensures) ∙ c .if1 .left)) ∙ l .loop .inv .2)
+
+returns-2 : tie.Need-returns-2 Inv-loop μ-loop
+returns-2 c =
+    let l = c .before in
+    sym (place-end (is-listed-as (l .before .args .toi)) 32 (l .before .args .t1) (l .loop .inv .0) (l .loop .i) (omega arith)) ∙ l .loop .inv .2
+
+pub listed-slot-spec : {M : Type 1} → statement M
+listed-slot-spec =
+    tie.close
+    (tie.spec
+    Inv-loop
+    μ-loop
+    loop-holds
+    mul-s
+    array-copy-out-s
+    is-listed-slot-requires
+    returns
+    add-i
+    loop-less
+    loop-again
+    returns-2)

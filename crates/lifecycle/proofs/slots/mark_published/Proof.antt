@@ -1,0 +1,66 @@
+use mathlib.Core.Path.{_≡_, refl, _∙_}
+use Prim.Native.Nat.{_-_, _≤_}
+use native.Mathlib.Omega.{arith}
+use borrow.Author.Needs.{needs}
+use lib.ListN.{length}
+use Rattle.sizes.proofs.Arrays.{mapped, mapped-more, mapped-all}
+use Rattle.lifecycle.specs.Slots.{no-slot, published-slot}
+use Rattle.lifecycle.proofs.slots.mark_published.Statement.{statement}
+use Rattle.lifecycle.proofs.slots.mark_published.Tie as tie
+
+abbrev Inv-loop : tie.InvT-loop
+Inv-loop out₀ k₀ out k = (k ≤ 32) × (length out₀ ≡ 32) × (out ≡ mapped published-slot out₀ k)
+
+abbrev μ-loop : tie.MeasureT-loop
+μ-loop out₀ k₀ out k = 32 - k
+
+loop-holds : tie.Need-loop-holds Inv-loop μ-loop
+loop-holds c = (search needs, c .good .0 .1 .0 .1, refl)
+
+mul-s : tie.Need-mul-s Inv-loop μ-loop
+mul-s c = search needs
+
+array-copy-out-s : tie.Need-array-copy-out-s Inv-loop μ-loop
+array-copy-out-s c = search needs
+
+published-requires : tie.Need-published-requires Inv-loop μ-loop
+published-requires c κs = search needs
+
+mul-out : tie.Need-mul-out Inv-loop μ-loop
+mul-out c = search needs
+
+array-set-from-out : tie.Need-array-set-from-out Inv-loop μ-loop
+array-set-from-out c = search needs
+
+add-k : tie.Need-add-k Inv-loop μ-loop
+add-k c = search needs
+
+loop-less : tie.Need-loop-less Inv-loop μ-loop
+loop-less c = search needs
+
+loop-again : tie.Need-loop-again Inv-loop μ-loop
+loop-again c =
+    let l = c .before .before .before in
+    (search needs, l .loop .inv .1, mapped-more published-slot (l .before .args .slots) (l .loop .k) no-slot (omega arith) (l .loop .inv .2) (c .published .ensures))
+
+returns : tie.Need-returns Inv-loop μ-loop
+returns c =
+    let l = c .before in
+    l .loop .inv .2 ∙ mapped-all published-slot (l .before .args .slots) (l .loop .k) (omega arith)
+
+pub mark-published-spec : {M : Type 1} → statement M
+mark-published-spec =
+    tie.close
+    (tie.spec
+    Inv-loop
+    μ-loop
+    loop-holds
+    mul-s
+    array-copy-out-s
+    published-requires
+    mul-out
+    array-set-from-out
+    add-k
+    loop-less
+    loop-again
+    returns)

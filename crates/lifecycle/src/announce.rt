@@ -1,0 +1,364 @@
+// The FDT side: what waits to be announced, what is current, and when a new FDT is needed (src/sender/fdt.rs).
+ghost use mathlib.Core.Path.{_≡_};
+ghost use Prim.Native.Nat.{_<_};
+ghost use Rattle.sizes.specs.Limits.{waiting-fdts};
+ghost use Rattle.sizes.specs.Words.{shut};
+ghost use Rattle.lifecycle.specs.Fdt.{runs-out};
+ghost use Rattle.lifecycle.specs.Announce.{no-instance, first-instance, started-instance, done-instance, fdt-rule, needs-new-of, queued-of, published-of, front-of, start-of, transferring-of, next-of, done-of, waits-of, shares-fdt-of, bad-fdt-of, opening-of, FdtValid};
+use crate::filedesc::Life;
+use crate::filedesc::Rule;
+use crate::filedesc::Time;
+use crate::filedesc::elapsed;
+use crate::parts::Part;
+use crate::parts::ends_past;
+use crate::parts::shares;
+
+// One FDT.
+#[repr(C)]
+pub struct Instance {
+    pub id: u32,
+    pub part: Part,
+    pub life: Life,
+}
+
+// The next id, the last publish, the FDTs that wait (the first `waiting`), and the current one where `has_current`.
+#[repr(C)]
+pub struct Announcer {
+    pub fdtid: u32,
+    pub last_publish: Time,
+    pub queue: [Instance; 4],
+    pub waiting: usize,
+    pub has_current: bool,
+    pub current: Instance,
+}
+
+// What asking for the next FDT comes to: was the draft taken, and does the current one start now?
+pub struct NextFdt {
+    pub taken: bool,
+    pub starts: bool,
+    pub announcer: Announcer,
+}
+
+// A part to announce, or none.
+pub enum Draft {
+    Given(Part),
+    Missing,
+}
+
+// What is asked of every FDT: maximum 1, the set-up's carousel.
+pub fn fdt_rule(from_start: bool, interval: u64) -> Rule
+    ensures { λ r. ⌜ r ≡ fdt-rule «from_start» interval ⌝ }
+{
+    Rule {
+        most: 1,
+        repeats: true,
+        from_start,
+        interval,
+        paced: false,
+        by_time: false,
+        target: 0,
+        stop_at_once: false,
+    }
+}
+
+// Has the validity run out, or nearly, once this much has elapsed? By its whole seconds: at most 10, 11 to 30, above 30; at 10 and 30 its nanoseconds decide.
+pub fn will_expire(validity: u64, elapsed: u64) -> bool
+    ensures { λ r. ⌜ r ≡ runs-out validity elapsed ⌝ }
+{
+    let seconds = validity / 1_000_000_000;
+    let rest = validity % 1_000_000_000;
+    match seconds {
+        0..=9 => validity <= elapsed,
+        10 => {
+            if rest == 0 {
+                return validity <= elapsed;
+            }
+            validity - 1_000_000_000 < elapsed
+        }
+        11..=29 => validity - 1_000_000_000 < elapsed,
+        30 => {
+            if 0 < rest {
+                return validity - 5_000_000_000 < elapsed;
+            }
+            validity - 1_000_000_000 < elapsed
+        }
+        _ => validity - 5_000_000_000 < elapsed,
+    }
+}
+
+// What stands where there is no FDT.
+fn no_fdt() -> Instance
+    ensures { λ r. ⌜ r ≡ no-instance ⌝ }
+{
+    let none = Time {
+        known: false,
+        at: 0,
+    };
+    Instance {
+        id: 0,
+        part: Part { start: 0, size: 0 },
+        life: Life {
+            published: false,
+            transferring: false,
+            count: 0,
+            total: 0,
+            last_start: none,
+            last_end: none,
+            named_start: none,
+        },
+    }
+}
+
+// The queue without its front: the others move up, and zeros come in at the end.
+fn moved_up(queue: [Instance; 4]) -> [Instance; 4]
+    ensures { λ r. ⌜ r ≡ shut no-instance queue 0 ⌝ }
+{
+    let mut out = queue;
+    let mut j: usize = 0;
+    while j < 3 {
+        let i = out[j + 1];
+        out[j] = i;
+        j += 1;
+    }
+    let none = no_fdt();
+    out[3] = none;
+    out
+}
+
+impl Instance {
+    // An FDT that is just being published.
+    fn new(id: u32, part: Part) -> Instance
+        ensures { λ r. ⌜ r ≡ first-instance id part ⌝ }
+    {
+        let none = Time {
+            known: false,
+            at: 0,
+        };
+        Instance {
+            id,
+            part,
+            life: Life {
+                published: true,
+                transferring: false,
+                count: 0,
+                total: 0,
+                last_start: none,
+                last_end: none,
+                named_start: none,
+            },
+        }
+    }
+
+    // Its transfer starts.
+    fn started(self, rule: Rule, now: u64) -> Instance
+        ensures { λ r. ⌜ r ≡ started-instance rule now self ⌝ }
+    {
+        let life = self.life.started(rule, now);
+        Instance { life, ..self }
+    }
+
+    // Its transfer has ended.
+    fn done(self, now: u64) -> Instance
+        ensures { λ r. ⌜ r ≡ done-instance now self ⌝ }
+    {
+        let life = self.life.done(now);
+        Instance { life, ..self }
+    }
+}
+
+impl Announcer {
+    // Nothing waits, and nothing is current.
+    pub fn new(first_id: u32) -> Announcer
+        ensures { λ r. ⌜ r ≡ opening-of «first_id» ⌝ }
+    {
+        let none = no_fdt();
+        Announcer {
+            fdtid: first_id,
+            last_publish: Time {
+                known: false,
+                at: 0,
+            },
+            queue: [none; 4],
+            waiting: 0,
+            has_current: false,
+            current: none,
+        }
+    }
+
+    // Is a new FDT needed?
+    pub fn needs_new(self, validity: u64, now: u64) -> bool
+        ensures { λ r. ⌜ r ≡ needs-new-of validity now self ⌝ }
+    {
+        if self.waiting != 0 {
+            return false;
+        }
+        if !self.has_current {
+            return true;
+        }
+        if !self.last_publish.known {
+            return true;
+        }
+        will_expire(validity, elapsed(now, self.last_publish.at))
+    }
+
+    // The part waits under the current id, and the id moves on.
+    fn with_published(self, now: u64, part: Part) -> Announcer
+        requires { ⌜ FdtValid self × (self .waiting < waiting-fdts) ⌝ }
+        ensures { λ r. ⌜ r ≡ queued-of now part self ⌝ }
+    {
+        let at = self.waiting;
+        let i = Instance::new(self.fdtid, part);
+        let mut a = self;
+        a.queue[at] = i;
+        Announcer {
+            fdtid: (self.fdtid + 1) % 0x10_0000,
+            last_publish: Time {
+                known: true,
+                at: now,
+            },
+            waiting: at + 1,
+            ..a
+        }
+    }
+
+    // The part waits under the current id; where 4 wait, nothing changes.
+    pub fn published(self, now: u64, part: Part) -> Announcer
+        requires { ⌜ FdtValid self ⌝ }
+        ensures { λ r. ⌜ r ≡ published-of now part self ⌝ }
+    {
+        if 4 <= self.waiting {
+            return self;
+        }
+        self.with_published(now, part)
+    }
+
+    // The front of the queue, if any, becomes current.
+    fn with_front(self) -> Announcer
+        ensures { λ r. ⌜ r ≡ front-of self ⌝ }
+    {
+        if self.waiting == 0 {
+            return self;
+        }
+        let held = self.queue;
+        let current = held[0];
+        let queue = moved_up(held);
+        Announcer {
+            queue,
+            waiting: self.waiting - 1,
+            has_current: true,
+            current,
+            ..self
+        }
+    }
+
+    // The current one starts if it may.
+    fn with_start(self, rule: Rule, now: u64, taken: bool) -> NextFdt
+        ensures { λ r. ⌜ r ≡ start-of rule now taken self ⌝ }
+    {
+        if !self.has_current {
+            return NextFdt {
+                taken,
+                starts: false,
+                announcer: self,
+            };
+        }
+        let i = self.current;
+        if !rule.may_start_now(i.life, now) {
+            return NextFdt {
+                taken,
+                starts: false,
+                announcer: self,
+            };
+        }
+        let current = i.started(rule, now);
+        NextFdt {
+            taken,
+            starts: true,
+            announcer: Announcer { current, ..self },
+        }
+    }
+
+    // Is an FDT being transferred?
+    fn is_transferring(self) -> bool
+        ensures { λ r. ⌜ r ≡ transferring-of self ⌝ }
+    {
+        if !self.has_current {
+            return false;
+        }
+        self.current.life.transferring
+    }
+
+    // The next FDT: nothing new while the current one is transferring; else republish if needed, take the front, start it if it may.
+    pub fn get_next_fdt_transfer(self, rule: Rule, validity: u64, now: u64, draft: Draft) -> NextFdt
+        requires { ⌜ FdtValid self ⌝ }
+        ensures { λ r. ⌜ r ≡ next-of rule validity now draft self ⌝ }
+    {
+        if self.is_transferring() {
+            return NextFdt {
+                taken: false,
+                starts: false,
+                announcer: self,
+            };
+        }
+        if !self.needs_new(validity, now) {
+            return self.with_front().with_start(rule, now, false);
+        }
+        let Draft::Given(part) = draft else {
+            return self.with_front().with_start(rule, now, false);
+        };
+        self.with_published(now, part)
+            .with_front()
+            .with_start(rule, now, true)
+    }
+
+    // The current one is done. It has a carousel, so it stays current.
+    pub fn fdt_transfer_done(self, now: u64) -> Announcer
+        ensures { λ r. ⌜ r ≡ done-of now self ⌝ }
+    {
+        if !self.has_current {
+            return self;
+        }
+        let was = self.current;
+        let current = was.done(now);
+        Announcer { current, ..self }
+    }
+
+    // Does an FDT wait?
+    pub fn need_transfer_fdt(self) -> bool
+        ensures { λ r. ⌜ r ≡ waits-of self ⌝ }
+    {
+        self.waiting != 0
+    }
+
+    // Does a part share a byte with that of an FDT that waits, or of the current one?
+    pub fn shares_fdt(self, c: Part) -> bool
+        requires { ⌜ FdtValid self ⌝ }
+        ensures { λ r. ⌜ r ≡ shares-fdt-of c self ⌝ }
+    {
+        let n = self.waiting;
+        let mut j: usize = 0;
+        while j < n {
+            let i = self.queue[j];
+            if shares(c, i.part) {
+                return true;
+            }
+            j += 1;
+        }
+        if !self.has_current {
+            return false;
+        }
+        let current = self.current;
+        shares(c, current.part)
+    }
+
+    // Is a part no good for an FDT: it ends past the store, or shares a byte with a held one?
+    pub fn bad_fdt_part(self, store: u64, c: Part) -> bool
+        requires { ⌜ FdtValid self ⌝ }
+        ensures { λ r. ⌜ r ≡ bad-fdt-of store c self ⌝ }
+    {
+        if ends_past(store, c) {
+            return true;
+        }
+        self.shares_fdt(c)
+    }
+}

@@ -1,0 +1,704 @@
+// The objects that are held, the queue of those that wait, their numbers, and the FDT side (src/sender/fdt.rs).
+ghost use mathlib.Core.Path.{_≡_};
+ghost use mathlib.Core.Bool.{true, false};
+ghost use Prim.Native.Nat.{ℕ, _<_, _≤_};
+ghost use Rattle.lifecycle.specs.Setup.{bad-blocks};
+ghost use Rattle.lifecycle.specs.FdtCalls.{own-of, bad-part-of, put-of, reserved-of, released-of, fresh-of, named-of, added-of, is-added-of, transfers-of, transfers-said, unlisted-of, freed-of, removed-of, triggered-of, taken-at, taken-of, back-of, let-go-of, done-of, completed-of, Valid};
+ghost use Rattle.lifecycle.specs.Slots.{slot-at};
+ghost use Rattle.lifecycle.specs.Announce.{waits-of};
+ghost use Rattle.lifecycle.specs.FdtCalls.{announced as announced-of, opening-fdt, publish-of, draft-said, real-draft, draft-test-of, next-fdt-of, fdt-done-of};
+use crate::announce::Announcer;
+use crate::announce::Draft;
+use crate::announce::fdt_rule;
+use crate::filedesc::FileDesc;
+use crate::filedesc::Rule;
+use crate::filedesc::Time;
+use crate::parts::Part;
+use crate::parts::ends_past;
+use crate::slots::Place;
+use crate::slots::Slot;
+use crate::slots::any_shares;
+use crate::slots::first_startable;
+use crate::slots::free_slot;
+use crate::slots::listed_slot;
+use crate::slots::mark_published;
+use crate::slots::queue_closed;
+use crate::slots::queue_place;
+use sizes::partition::Sizes;
+use sizes::partition::block_partitioning;
+use sizes::toiallocator::Given;
+use sizes::toiallocator::Known;
+use sizes::toiallocator::ToiAllocator;
+
+// What the set-up names once: the stores' lengths, E and B, and the FDTs' validity and carousel.
+#[repr(C)]
+pub struct Settings {
+    pub object_store: u64,
+    pub fdt_store: u64,
+    pub sizes: Sizes,
+    pub validity: u64,
+    pub from_start: bool,
+    pub interval: u64,
+}
+
+// The queue has the slots of the objects that wait, the first `queued` of the array, in order.
+#[repr(C)]
+pub struct Fdt {
+    pub settings: Settings,
+    pub complete: bool,
+    pub tois: ToiAllocator,
+    pub slots: [Slot; 32],
+    pub queue: [usize; 32],
+    pub queued: usize,
+    pub announcer: Announcer,
+}
+
+// An object's own E and B, or the set-up's.
+pub enum Own {
+    Sizes(Sizes),
+    SetUp,
+}
+
+// The reservation that an add names, if any.
+pub enum Named {
+    Toi(u64),
+    Anew,
+}
+
+// What an add asks for.
+pub struct Request {
+    pub priority: u32,
+    pub part: Part,
+    pub own: Own,
+    pub rule: Rule,
+    pub start: Time,
+}
+
+// The number of an admitted object, or why it is refused.
+pub enum Admission {
+    Toi(u64),
+    Complete,
+    Sizes,
+    Part,
+    Unknown,
+    Full,
+}
+
+pub struct Added {
+    pub answer: Admission,
+    pub fdt: Fdt,
+}
+
+pub struct Reserved {
+    pub answer: Given,
+    pub fdt: Fdt,
+}
+
+pub struct Released {
+    pub answer: Known,
+    pub fdt: Fdt,
+}
+
+// Yes or no.
+pub struct Told {
+    pub yes: bool,
+    pub fdt: Fdt,
+}
+
+// The total transfers of a listed object.
+pub enum Transfers {
+    Total(u64),
+    NotListed,
+}
+
+// The slot that a session takes, if any.
+pub struct Taken {
+    pub answer: Place,
+    pub fdt: Fdt,
+}
+
+// A publish that was done, or why it was not.
+pub enum Publication {
+    Done,
+    Sizes,
+    Part,
+    Full,
+}
+
+pub struct Published {
+    pub answer: Publication,
+    pub fdt: Fdt,
+}
+
+// Is a draft good, or why not.
+pub enum DraftTest {
+    Good,
+    Sizes,
+    Part,
+}
+
+// What asking for the next FDT comes to: was the draft taken, and does the current FDT start now?
+pub struct NextOf {
+    pub taken: bool,
+    pub starts: bool,
+    pub fdt: Fdt,
+}
+
+// A draft of length 0 is none.
+pub fn real_draft(draft: Draft) -> Draft
+    ensures { λ r. ⌜ r ≡ real-draft draft ⌝ }
+{
+    let Draft::Given(c) = draft else {
+        return Draft::Missing;
+    };
+    if c.size == 0 {
+        return Draft::Missing;
+    }
+    Draft::Given(c)
+}
+
+// Are E, B or the block count of l bytes out of range?
+pub fn are_bad_blocks(z: Sizes, l: u64) -> bool
+    ensures { λ r. ⌜ r ≡ bad-blocks z l ⌝ }
+{
+    if z.e == 0 || 65535 < z.e {
+        return true;
+    }
+    if z.b == 0 || 65535 < z.b {
+        return true;
+    }
+    65535 < block_partitioning(z.b, l, z.e).blocks
+}
+
+// An object's own E and B, or the set-up's.
+fn own_sizes(own: Own, z: Sizes) -> Sizes
+    ensures { λ r. ⌜ r ≡ own-of own z ⌝ }
+{
+    match own {
+        Own::Sizes(y) => y,
+        Own::SetUp => z,
+    }
+}
+
+impl Fdt {
+    // Does the part end past the object store, or share a byte with a held object?
+    fn is_bad_part(self, c: Part) -> bool
+        ensures { λ r. ⌜ r ≡ bad-part-of self c ⌝ }
+    {
+        if ends_past(self.settings.object_store, c) {
+            return true;
+        }
+        let slots = self.slots;
+        any_shares(slots, c)
+    }
+
+    // A number is reserved.
+    pub fn allocate_toi(self) -> Reserved
+        requires { ⌜ Valid self ⌝ }
+        ensures { λ r. ⌜ r ≡ reserved-of self ⌝ }
+    {
+        let tois = self.tois;
+        let r = tois.allocate(true);
+        let answer = r.answer;
+        let tois = r.allocator;
+        Reserved {
+            answer,
+            fdt: Fdt { tois, ..self },
+        }
+    }
+
+    // A loose reservation is let go.
+    pub fn release_toi(self, toi: u64) -> Released
+        requires { ⌜ Valid self ⌝ }
+        ensures { λ r. ⌜ r ≡ released-of toi self ⌝ }
+    {
+        let tois = self.tois;
+        let r = tois.release(toi);
+        let answer = r.answer;
+        let tois = r.allocator;
+        Released {
+            answer,
+            fdt: Fdt { tois, ..self },
+        }
+    }
+
+    // A new object in slot k, at the queue's end.
+    fn put(self, k: usize, toi: u64, q: Request, z: Sizes) -> Fdt
+        requires { ⌜ (k < 32) × (self .queued < 32) ⌝ }
+        ensures { λ r. ⌜ r ≡ put-of self k toi q z ⌝ }
+    {
+        let part = q.part;
+        let rule = q.rule;
+        let start = q.start;
+        let file = FileDesc::new(toi, q.priority, part, z, rule, start);
+        let mut slots = self.slots;
+        slots[k] = Slot {
+            holders: 1,
+            listed: true,
+            file,
+        };
+        let n = self.queued;
+        let mut queue = self.queue;
+        queue[n] = k;
+        Fdt {
+            slots,
+            queue,
+            queued: n + 1,
+            ..self
+        }
+    }
+
+    // An add that names a reservation.
+    fn add_named(self, q: Request, z: Sizes, toi: u64) -> Added
+        requires { ⌜ Valid self ⌝ }
+        ensures { λ r. ⌜ r ≡ named-of self q z toi ⌝ }
+    {
+        let tois = self.tois;
+        if !tois.is_loose(toi) {
+            return Added {
+                answer: Admission::Unknown,
+                fdt: self,
+            };
+        }
+        let slots = self.slots;
+        let Place::At(k) = free_slot(slots) else {
+            return Added {
+                answer: Admission::Full,
+                fdt: self,
+            };
+        };
+        let r = tois.claim(toi);
+        let tois = r.allocator;
+        let claimed = Fdt { tois, ..self };
+        Added {
+            answer: Admission::Toi(toi),
+            fdt: claimed.put(k, toi, q, z),
+        }
+    }
+
+    // An add that names no reservation.
+    fn add_fresh(self, q: Request, z: Sizes) -> Added
+        requires { ⌜ Valid self ⌝ }
+        ensures { λ r. ⌜ r ≡ fresh-of self q z ⌝ }
+    {
+        let slots = self.slots;
+        let Place::At(k) = free_slot(slots) else {
+            return Added {
+                answer: Admission::Full,
+                fdt: self,
+            };
+        };
+        let tois = self.tois;
+        let r = tois.allocate(false);
+        let answer = r.answer;
+        let tois = r.allocator;
+        let Given::Number(toi) = answer else {
+            return Added {
+                answer: Admission::Full,
+                fdt: self,
+            };
+        };
+        let given = Fdt { tois, ..self };
+        Added {
+            answer: Admission::Toi(toi),
+            fdt: given.put(k, toi, q, z),
+        }
+    }
+
+    // An object is admitted, or refused by the first reason of 3 to 7. Whether a session has its priority (2) is asked above.
+    pub fn add_object(self, q: Request, named: Named) -> Added
+        requires { ⌜ Valid self ⌝ }
+        ensures { λ r. ⌜ r ≡ added-of self q named ⌝ }
+    {
+        if self.complete {
+            return Added {
+                answer: Admission::Complete,
+                fdt: self,
+            };
+        }
+        let own = q.own;
+        let part = q.part;
+        let set_up = self.settings.sizes;
+        let z = own_sizes(own, set_up);
+        if are_bad_blocks(z, part.size) {
+            return Added {
+                answer: Admission::Sizes,
+                fdt: self,
+            };
+        }
+        if self.is_bad_part(part) {
+            return Added {
+                answer: Admission::Part,
+                fdt: self,
+            };
+        }
+        match named {
+            Named::Toi(toi) => self.add_named(q, z, toi),
+            Named::Anew => self.add_fresh(q, z),
+        }
+    }
+
+    // Is there a listed object with this number?
+    pub fn is_added(self, toi: u64) -> bool
+        ensures { λ r. ⌜ r ≡ is-added-of toi self ⌝ }
+    {
+        let slots = self.slots;
+        let Place::At(_) = listed_slot(slots, toi) else {
+            return false;
+        };
+        true
+    }
+
+    // The total transfers of the listed object with this number.
+    pub fn nb_transfers(self, toi: u64) -> Transfers
+        requires { ⌜ Valid self ⌝ }
+        ensures { λ r. ⌜ transfers-said r ≡ transfers-of toi self ⌝ }
+    {
+        let slots = self.slots;
+        let Place::At(k) = listed_slot(slots, toi) else {
+            return Transfers::NotListed;
+        };
+        Transfers::Total(slots[k].file.life.total)
+    }
+
+    // The list lets go of slot k, which a session sends.
+    fn unlisted(self, k: usize) -> Fdt
+        requires { ⌜ Valid self × (k < 32) × (0 < slot-at (self .slots) k .holders) ⌝ }
+        ensures { λ r. ⌜ r ≡ unlisted-of self k ⌝ }
+    {
+        let mut slots = self.slots;
+        let v = slots[k];
+        slots[k] = Slot {
+            holders: v.holders - 1,
+            listed: false,
+            ..v
+        };
+        Fdt { slots, ..self }
+    }
+
+    // Slot k, which waits at place n of the queue, is free.
+    fn freed(self, toi: u64, k: usize, n: usize) -> Fdt
+        requires { ⌜ Valid self × (k < 32) × (n < self .queued) ⌝ }
+        ensures { λ r. ⌜ r ≡ freed-of self toi k n ⌝ }
+    {
+        let tois = self.tois;
+        let r = tois.free(toi);
+        let tois = r.allocator;
+        let mut slots = self.slots;
+        slots[k] = crate::slots::no_slot();
+        let was = self.queue;
+        let queue = queue_closed(was, n);
+        Fdt {
+            tois,
+            slots,
+            queue,
+            queued: self.queued - 1,
+            ..self
+        }
+    }
+
+    // The listed object with this number leaves the list; a session that sends it keeps it.
+    pub fn remove_object(self, toi: u64) -> Told
+        requires { ⌜ Valid self ⌝ }
+        ensures { λ r. ⌜ r ≡ removed-of toi self ⌝ }
+    {
+        let slots = self.slots;
+        let Place::At(k) = listed_slot(slots, toi) else {
+            return Told {
+                yes: false,
+                fdt: self,
+            };
+        };
+        if slots[k].file.life.transferring {
+            return Told {
+                yes: true,
+                fdt: self.unlisted(k),
+            };
+        }
+        let queue = self.queue;
+        let Place::At(n) = queue_place(queue, self.queued, k) else {
+            return Told {
+                yes: true,
+                fdt: self,
+            };
+        };
+        Told {
+            yes: true,
+            fdt: self.freed(toi, k, n),
+        }
+    }
+
+    // A listed object that is not in transfer may start anew.
+    pub fn trigger_transfer_at(self, toi: u64, start: Time) -> Told
+        requires { ⌜ Valid self ⌝ }
+        ensures { λ r. ⌜ r ≡ triggered-of toi start self ⌝ }
+    {
+        let mut slots = self.slots;
+        let Place::At(k) = listed_slot(slots, toi) else {
+            return Told {
+                yes: false,
+                fdt: self,
+            };
+        };
+        let v = slots[k];
+        if v.file.life.transferring {
+            return Told {
+                yes: true,
+                fdt: self,
+            };
+        }
+        let was = v.file;
+        let file = was.reset_last_transfer(start);
+        slots[k] = Slot { file, ..v };
+        Told {
+            yes: true,
+            fdt: Fdt { slots, ..self },
+        }
+    }
+
+    // No object is added any more.
+    pub fn set_complete(self) -> Fdt
+        ensures { λ r. ⌜ r ≡ completed-of self ⌝ }
+    {
+        Fdt {
+            complete: true,
+            ..self
+        }
+    }
+
+    // Slot k, at place n of the queue, is taken by a session.
+    fn taken(self, now: u64, n: usize, k: usize) -> Fdt
+        requires { ⌜ Valid self × (k < 32) × (n < self .queued) ⌝ }
+        ensures { λ r. ⌜ r ≡ taken-at now self n k ⌝ }
+    {
+        let mut slots = self.slots;
+        let v = slots[k];
+        let was = v.file;
+        let file = was.transfer_started(now);
+        slots[k] = Slot {
+            holders: v.holders + 1,
+            file,
+            ..v
+        };
+        let before = self.queue;
+        let queue = queue_closed(before, n);
+        Fdt {
+            slots,
+            queue,
+            queued: self.queued - 1,
+            ..self
+        }
+    }
+
+    // The first object in the queue that a session of this priority may start, taken.
+    pub fn get_next_file_transfer(self, priority: u32, now: u64) -> Taken
+        requires { ⌜ Valid self ⌝ }
+        ensures { λ r. ⌜ r ≡ taken-of priority now self ⌝ }
+    {
+        let slots = self.slots;
+        let queue = self.queue;
+        let Place::At(n) = first_startable(slots, queue, self.queued, priority, now) else {
+            return Taken {
+                answer: Place::Nothing,
+                fdt: self,
+            };
+        };
+        let k = queue[n];
+        Taken {
+            answer: Place::At(k),
+            fdt: self.taken(now, n, k),
+        }
+    }
+
+    // Slot k, whose transfer has ended, goes to the queue's end.
+    fn back(self, now: u64, k: usize) -> Fdt
+        requires { ⌜ Valid self × (k < 32) × (self .queued < 32) × (0 < slot-at (self .slots) k .holders) ⌝ }
+        ensures { λ r. ⌜ r ≡ back-of now self k ⌝ }
+    {
+        let mut slots = self.slots;
+        let sent = slots[k];
+        let was = sent.file;
+        let file = was.transfer_done(now);
+        slots[k] = Slot {
+            holders: sent.holders - 1,
+            file,
+            ..sent
+        };
+        let end = self.queued;
+        let mut queue = self.queue;
+        queue[end] = k;
+        Fdt {
+            slots,
+            queue,
+            queued: end + 1,
+            ..self
+        }
+    }
+
+    // Slot k is free, and its number too.
+    fn let_go(self, k: usize) -> Fdt
+        requires { ⌜ Valid self × (k < 32) ⌝ }
+        ensures { λ r. ⌜ r ≡ let-go-of self k ⌝ }
+    {
+        let mut slots = self.slots;
+        let tois = self.tois;
+        let r = tois.free(slots[k].file.toi);
+        let tois = r.allocator;
+        slots[k] = crate::slots::no_slot();
+        Fdt {
+            tois,
+            slots,
+            ..self
+        }
+    }
+
+    // The session that sends slot k is done with it: it is sent again, or let go.
+    pub fn transfer_done(self, k: usize, now: u64) -> Fdt
+        requires { ⌜ Valid self ⌝ }
+        ensures { λ r. ⌜ r ≡ done-of now k self ⌝ }
+    {
+        if 32 <= k {
+            return self;
+        }
+        let slots = self.slots;
+        let v = slots[k];
+        if !v.file.life.transferring {
+            return self;
+        }
+        if !v.listed {
+            return self.let_go(k);
+        }
+        let was = v.file;
+        if was.transfer_done(now).is_expired() {
+            return self.let_go(k);
+        }
+        self.back(now, k)
+    }
+
+    // Nothing is held, and nothing waits.
+    pub fn new(settings: Settings, tois: ToiAllocator, first_id: u32) -> Fdt
+        ensures { λ r. ⌜ r ≡ opening-fdt settings tois «first_id» ⌝ }
+    {
+        let none = crate::slots::no_slot();
+        let announcer = Announcer::new(first_id);
+        Fdt {
+            settings,
+            complete: false,
+            tois,
+            slots: [none; 32],
+            queue: [0; 32],
+            queued: 0,
+            announcer,
+        }
+    }
+
+    // A new FDT side, after a publish: every listed object is published.
+    fn announced(self, announcer: Announcer) -> Fdt
+        ensures { λ r. ⌜ r ≡ announced-of self announcer ⌝ }
+    {
+        let was = self.slots;
+        let slots = mark_published(was);
+        Fdt {
+            slots,
+            announcer,
+            ..self
+        }
+    }
+
+    // The part is queued as the next FDT, or refused by the first reason of 4, 5 and 7.
+    pub fn publish(self, now: u64, c: Part) -> Published
+        requires { ⌜ Valid self ⌝ }
+        ensures { λ r. ⌜ r ≡ publish-of now c self ⌝ }
+    {
+        let z = self.settings.sizes;
+        if are_bad_blocks(z, c.size) {
+            return Published {
+                answer: Publication::Sizes,
+                fdt: self,
+            };
+        }
+        let a = self.announcer;
+        if a.bad_fdt_part(self.settings.fdt_store, c) {
+            return Published {
+                answer: Publication::Part,
+                fdt: self,
+            };
+        }
+        if c.size == 0 {
+            return Published {
+                answer: Publication::Part,
+                fdt: self,
+            };
+        }
+        if 4 <= a.waiting {
+            return Published {
+                answer: Publication::Full,
+                fdt: self,
+            };
+        }
+        let queued = a.published(now, c);
+        Published {
+            answer: Publication::Done,
+            fdt: self.announced(queued),
+        }
+    }
+
+    // Is a draft good for an FDT run? One that is missing is not looked at.
+    pub fn test_draft(self, draft: Draft) -> DraftTest
+        requires { ⌜ Valid self ⌝ }
+        ensures { λ r. ⌜ draft-said r ≡ draft-test-of draft self ⌝ }
+    {
+        let Draft::Given(c) = draft else {
+            return DraftTest::Good;
+        };
+        let z = self.settings.sizes;
+        if are_bad_blocks(z, c.size) {
+            return DraftTest::Sizes;
+        }
+        let a = self.announcer;
+        if a.bad_fdt_part(self.settings.fdt_store, c) {
+            return DraftTest::Part;
+        }
+        DraftTest::Good
+    }
+
+    // Does an FDT wait? Then file sessions answer nothing.
+    pub fn need_transfer_fdt(self) -> bool
+        ensures { λ r. ⌜ r ≡ waits-of (self .announcer) ⌝ }
+    {
+        let a = self.announcer;
+        a.need_transfer_fdt()
+    }
+
+    // The next FDT, with a draft that is good or missing.
+    pub fn get_next_fdt_transfer(self, now: u64, draft: Draft) -> NextOf
+        requires { ⌜ Valid self ⌝ }
+        ensures { λ r. ⌜ r ≡ next-fdt-of now draft self ⌝ }
+    {
+        let rule = fdt_rule(self.settings.from_start, self.settings.interval);
+        let a = self.announcer;
+        let n = a.get_next_fdt_transfer(rule, self.settings.validity, now, draft);
+        let announcer = n.announcer;
+        if n.taken {
+            return NextOf {
+                taken: true,
+                starts: n.starts,
+                fdt: self.announced(announcer),
+            };
+        }
+        NextOf {
+            taken: false,
+            starts: n.starts,
+            fdt: Fdt { announcer, ..self },
+        }
+    }
+
+    // The FDT session is done with the current FDT.
+    pub fn fdt_transfer_done(self, now: u64) -> Fdt
+        ensures { λ r. ⌜ r ≡ fdt-done-of now self ⌝ }
+    {
+        let a = self.announcer;
+        let announcer = a.fdt_transfer_done(now);
+        Fdt { announcer, ..self }
+    }
+}

@@ -1,0 +1,199 @@
+// The slots of held objects, and the queue of those that wait.
+ghost use mathlib.Core.Path.{_≡_};
+ghost use Prim.Native.Nat.{ℕ, _<_, _≤_};
+ghost use mathlib.Core.List.{map};
+ghost use lib.Dec.{eqb};
+ghost use lib.ListN.{take};
+ghost use Rattle.sizes.specs.Words.{place, shut, any, Each};
+ghost use Rattle.lifecycle.specs.Slots.{no-slot, place-said, is-free, is-listed-as, holds-byte, queue-startable, published-slot};
+use crate::filedesc::Carousel;
+use crate::filedesc::FileDesc;
+use crate::filedesc::Rule;
+use crate::filedesc::Target;
+use crate::filedesc::Time;
+use crate::parts::Part;
+use sizes::partition::Sizes;
+
+// A held object: how many hold it (the list, a session), and whether the list does.
+#[repr(C)]
+pub struct Slot {
+    pub holders: u32,
+    pub listed: bool,
+    pub file: FileDesc,
+}
+
+// Where something stands.
+pub enum Place {
+    At(usize),
+    Nothing,
+}
+
+// A slot with nothing in it: all zeros.
+pub fn no_slot() -> Slot
+    ensures { λ r. ⌜ r ≡ no-slot ⌝ }
+{
+    let part = Part { start: 0, size: 0 };
+    let sizes = Sizes { e: 0, b: 0 };
+    let rule = Rule::new(0, Carousel::Never, Target::AtOnce, false);
+    let never = Time {
+        known: false,
+        at: 0,
+    };
+    Slot {
+        holders: 0,
+        listed: false,
+        file: FileDesc::new(0, 0, part, sizes, rule, never),
+    }
+}
+
+// Is the slot free?
+fn is_free_slot(s: Slot) -> bool
+    ensures { λ r. ⌜ r ≡ is-free s ⌝ }
+{
+    s.holders == 0
+}
+
+// The first free slot.
+pub fn free_slot(slots: [Slot; 32]) -> Place
+    ensures { λ r. ⌜ place-said r ≡ place is-free slots ⌝ }
+{
+    let mut i: usize = 0;
+    while i < 32 {
+        let s = slots[i];
+        if is_free_slot(s) {
+            return Place::At(i);
+        }
+        i += 1;
+    }
+    Place::Nothing
+}
+
+// Is it the listed object with this number?
+fn is_listed_slot(s: Slot, toi: u64) -> bool
+    ensures { λ r. ⌜ r ≡ is-listed-as toi s ⌝ }
+{
+    if s.file.toi != toi {
+        return false;
+    }
+    s.listed
+}
+
+// The slot of the listed object with this number.
+pub fn listed_slot(slots: [Slot; 32], toi: u64) -> Place
+    ensures { λ r. ⌜ place-said r ≡ place (is-listed-as toi) slots ⌝ }
+{
+    let mut i: usize = 0;
+    while i < 32 {
+        let s = slots[i];
+        if is_listed_slot(s, toi) {
+            return Place::At(i);
+        }
+        i += 1;
+    }
+    Place::Nothing
+}
+
+// Is it a held object that shares a byte with the part?
+fn has_byte_of(s: Slot, c: Part) -> bool
+    ensures { λ r. ⌜ r ≡ holds-byte c s ⌝ }
+{
+    if s.holders == 0 {
+        return false;
+    }
+    crate::parts::shares(c, s.file.part)
+}
+
+// Does a held object share a byte with the part?
+pub fn any_shares(slots: [Slot; 32], c: Part) -> bool
+    ensures { λ r. ⌜ r ≡ any (holds-byte c) slots ⌝ }
+{
+    let mut i: usize = 0;
+    while i < 32 {
+        let s = slots[i];
+        if has_byte_of(s, c) {
+            return true;
+        }
+        i += 1;
+    }
+    false
+}
+
+// The place in the queue of the first object that a session of this priority may start now.
+pub fn first_startable(
+    slots: [Slot; 32],
+    queue: [usize; 32],
+    queued: usize,
+    priority: u32,
+    now: u64,
+) -> Place
+    requires { ⌜ (queued ≤ 32) × Each (λ k. k < 32) (take queued queue) ⌝ }
+    ensures { λ r. ⌜ place-said r ≡ place (queue-startable slots priority now) (take queued queue) ⌝ }
+{
+    let mut i: usize = 0;
+    while i < queued {
+        let k = queue[i];
+        let s = slots[k];
+        if s.file.should_transfer_now(priority, now) {
+            return Place::At(i);
+        }
+        i += 1;
+    }
+    Place::Nothing
+}
+
+// The place of a slot in the queue.
+pub fn queue_place(queue: [usize; 32], queued: usize, slot: usize) -> Place
+    requires { ⌜ queued ≤ 32 ⌝ }
+    ensures { λ r. ⌜ place-said r ≡ place (λ k. eqb k slot) (take queued queue) ⌝ }
+{
+    let mut i: usize = 0;
+    while i < queued {
+        if queue[i] == slot {
+            return Place::At(i);
+        }
+        i += 1;
+    }
+    Place::Nothing
+}
+
+// The queue without the entry at `at`: the later ones move up.
+pub fn queue_closed(queue: [usize; 32], at: usize) -> [usize; 32]
+    requires { ⌜ at < 32 ⌝ }
+    ensures { λ r. ⌜ r ≡ shut 0 queue at ⌝ }
+{
+    let mut out = queue;
+    let mut j = at;
+    while j < 31 {
+        let k = out[j + 1];
+        out[j] = k;
+        j += 1;
+    }
+    out[31] = 0;
+    out
+}
+
+// A listed object is published from now on.
+fn published(s: Slot) -> Slot
+    ensures { λ r. ⌜ r ≡ published-slot s ⌝ }
+{
+    if !s.listed {
+        return s;
+    }
+    let file = s.file.set_published();
+    Slot { file, ..s }
+}
+
+// Every listed object is published.
+pub fn mark_published(slots: [Slot; 32]) -> [Slot; 32]
+    ensures { λ r. ⌜ r ≡ map published-slot slots ⌝ }
+{
+    let mut out = slots;
+    let mut k: usize = 0;
+    while k < 32 {
+        let s = out[k];
+        let t = published(s);
+        out[k] = t;
+        k += 1;
+    }
+    out
+}
