@@ -2,9 +2,12 @@
 ghost use mathlib.Core.Path.{_≡_};
 ghost use mathlib.Core.Bool.{true, false};
 ghost use Prim.Native.Nat.{ℕ, _<_, _≤_};
+ghost use lib.Dec.{eqb};
+ghost use lib.ListN.{take};
+ghost use Rattle.sizes.specs.Words.{place, shut, Each};
 ghost use Rattle.lifecycle.specs.Setup.{bad-blocks};
 ghost use Rattle.lifecycle.specs.FdtCalls.{own-of, bad-part-of, put-of, reserved-of, released-of, fresh-of, named-of, added-of, is-added-of, transfers-of, transfers-said, unlisted-of, freed-of, removed-of, triggered-of, taken-at, taken-of, back-of, let-go-of, done-of, completed-of, Valid};
-ghost use Rattle.lifecycle.specs.Slots.{slot-at};
+ghost use Rattle.lifecycle.specs.Slots.{slot-at, place-said, queue-startable};
 ghost use Rattle.lifecycle.specs.Announce.{waits-of};
 ghost use Rattle.lifecycle.specs.FdtCalls.{announced as announced-of, opening-fdt, publish-of, draft-said, real-draft, draft-test-of, next-fdt-of, fdt-done-of};
 use crate::announce::Announcer;
@@ -18,12 +21,9 @@ use crate::parts::ends_past;
 use crate::slots::Place;
 use crate::slots::Slot;
 use crate::slots::any_shares;
-use crate::slots::first_startable;
 use crate::slots::free_slot;
 use crate::slots::listed_slot;
 use crate::slots::mark_published;
-use crate::slots::queue_closed;
-use crate::slots::queue_place;
 use sizes::partition::Sizes;
 use sizes::partition::block_partitioning;
 use sizes::toiallocator::Given;
@@ -178,6 +178,60 @@ fn own_sizes(own: Own, z: Sizes) -> Sizes
         Own::Sizes(y) => y,
         Own::SetUp => z,
     }
+}
+
+// The place in the queue of the first object that a session of this priority may start now.
+fn first_startable(
+    slots: [Slot; 32],
+    queue: [usize; 32],
+    queued: usize,
+    priority: u32,
+    now: u64,
+) -> Place
+    requires { ⌜ (queued ≤ 32) × Each (λ k. k < 32) (take queued queue) ⌝ }
+    ensures { λ r. ⌜ place-said r ≡ place (queue-startable slots priority now) (take queued queue) ⌝ }
+{
+    let mut i: usize = 0;
+    while i < queued {
+        let k = queue[i];
+        let s = slots[k];
+        if s.file.should_transfer_now(priority, now) {
+            return Place::At(i);
+        }
+        i += 1;
+    }
+    Place::Nothing
+}
+
+// The place of a slot in the queue.
+fn queue_place(queue: [usize; 32], queued: usize, slot: usize) -> Place
+    requires { ⌜ queued ≤ 32 ⌝ }
+    ensures { λ r. ⌜ place-said r ≡ place (λ k. eqb k slot) (take queued queue) ⌝ }
+{
+    let mut i: usize = 0;
+    while i < queued {
+        if queue[i] == slot {
+            return Place::At(i);
+        }
+        i += 1;
+    }
+    Place::Nothing
+}
+
+// The queue without the entry at `at`: the later ones move up.
+fn queue_closed(queue: [usize; 32], at: usize) -> [usize; 32]
+    requires { ⌜ at < 32 ⌝ }
+    ensures { λ r. ⌜ r ≡ shut 0 queue at ⌝ }
+{
+    let mut out = queue;
+    let mut j = at;
+    while j < 31 {
+        let k = out[j + 1];
+        out[j] = k;
+        j += 1;
+    }
+    out[31] = 0;
+    out
 }
 
 impl Fdt {

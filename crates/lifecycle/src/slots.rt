@@ -3,9 +3,8 @@ ghost use mathlib.Core.Path.{_≡_};
 ghost use Prim.Native.Nat.{ℕ, _<_, _≤_};
 ghost use mathlib.Core.List.{map};
 ghost use lib.Dec.{eqb};
-ghost use lib.ListN.{take};
-ghost use Rattle.sizes.specs.Words.{place, shut, any, Each};
-ghost use Rattle.lifecycle.specs.Slots.{no-slot, place-said, is-free, is-listed-as, holds-byte, queue-startable, published-slot};
+ghost use Rattle.sizes.specs.Words.{place, any};
+ghost use Rattle.lifecycle.specs.Slots.{no-slot, place-said, is-free, is-listed-as, holds-byte, published-slot};
 use crate::filedesc::Carousel;
 use crate::filedesc::FileDesc;
 use crate::filedesc::Rule;
@@ -116,60 +115,6 @@ pub fn any_shares(slots: [Slot; 32], c: Part) -> bool
         i += 1;
     }
     false
-}
-
-// The place in the queue of the first object that a session of this priority may start now.
-pub fn first_startable(
-    slots: [Slot; 32],
-    queue: [usize; 32],
-    queued: usize,
-    priority: u32,
-    now: u64,
-) -> Place
-    requires { ⌜ (queued ≤ 32) × Each (λ k. k < 32) (take queued queue) ⌝ }
-    ensures { λ r. ⌜ place-said r ≡ place (queue-startable slots priority now) (take queued queue) ⌝ }
-{
-    let mut i: usize = 0;
-    while i < queued {
-        let k = queue[i];
-        let s = slots[k];
-        if s.file.should_transfer_now(priority, now) {
-            return Place::At(i);
-        }
-        i += 1;
-    }
-    Place::Nothing
-}
-
-// The place of a slot in the queue.
-pub fn queue_place(queue: [usize; 32], queued: usize, slot: usize) -> Place
-    requires { ⌜ queued ≤ 32 ⌝ }
-    ensures { λ r. ⌜ place-said r ≡ place (λ k. eqb k slot) (take queued queue) ⌝ }
-{
-    let mut i: usize = 0;
-    while i < queued {
-        if queue[i] == slot {
-            return Place::At(i);
-        }
-        i += 1;
-    }
-    Place::Nothing
-}
-
-// The queue without the entry at `at`: the later ones move up.
-pub fn queue_closed(queue: [usize; 32], at: usize) -> [usize; 32]
-    requires { ⌜ at < 32 ⌝ }
-    ensures { λ r. ⌜ r ≡ shut 0 queue at ⌝ }
-{
-    let mut out = queue;
-    let mut j = at;
-    while j < 31 {
-        let k = out[j + 1];
-        out[j] = k;
-        j += 1;
-    }
-    out[31] = 0;
-    out
 }
 
 // A listed object is published from now on.

@@ -6,8 +6,8 @@ use lib.ListN.{length, take}
 use Rattle.sizes.specs.Words.{place}
 use Rattle.sizes.proofs.Arrays.{ahead, place-start, place-hit, place-miss, place-end, each-get}
 use Rattle.lifecycle.specs.Slots.{queue-startable}
-use Rattle.lifecycle.proofs.slots.first_startable.Statement.{statement}
-use Rattle.lifecycle.proofs.slots.first_startable.Tie as tie
+use Rattle.lifecycle.proofs.fdt.first_startable.Statement.{statement}
+use Rattle.lifecycle.proofs.fdt.first_startable.Tie as tie
 
 abbrev Inv-loop : tie.InvT-loop
 Inv-loop queued priority now slots queue i₀ i = (long : queued ≤ length queue) × (i ≤ queued) × (ahead (queue-startable slots priority now) queued queue long i ≡ place (queue-startable slots priority now) (take queued queue))

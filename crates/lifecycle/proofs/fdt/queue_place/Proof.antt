@@ -7,8 +7,8 @@ use lib.ListN.{length, take}
 use lib.Dec.{eqb}
 use Rattle.sizes.specs.Words.{place}
 use Rattle.sizes.proofs.Arrays.{ahead, place-start, place-hit, place-miss, place-end}
-use Rattle.lifecycle.proofs.slots.queue_place.Statement.{statement}
-use Rattle.lifecycle.proofs.slots.queue_place.Tie as tie
+use Rattle.lifecycle.proofs.fdt.queue_place.Statement.{statement}
+use Rattle.lifecycle.proofs.fdt.queue_place.Tie as tie
 
 abbrev Inv-loop : tie.InvT-loop
 Inv-loop queued slot queue i₀ i = (long : queued ≤ length queue) × (i ≤ queued) × (ahead (λ k. eqb k slot) queued queue long i ≡ place (λ k. eqb k slot) (take queued queue))

@@ -5,8 +5,8 @@ use borrow.Author.Needs.{needs}
 use lib.ListN.{length, length-set}
 use Rattle.sizes.specs.Words.{shut}
 use Rattle.sizes.proofs.Arrays.{shut-more, shut-end}
-use Rattle.lifecycle.proofs.slots.queue_closed.Statement.{statement}
-use Rattle.lifecycle.proofs.slots.queue_closed.Tie as tie
+use Rattle.lifecycle.proofs.fdt.queue_closed.Statement.{statement}
+use Rattle.lifecycle.proofs.fdt.queue_closed.Tie as tie
 
 abbrev Inv-loop : tie.InvT-loop
 Inv-loop at out₀ j₀ out j = (j ≤ 31) × (length out ≡ 32) × (shut 0 out j ≡ shut 0 out₀ at)
