@@ -3,7 +3,7 @@ use mathlib.Core.Path.{_≡_, refl, ap}
 use mathlib.Core.Bool.{Bool, true, false, not, _||_}
 use mathlib.Core.Option.{Option, none, some}
 use mathlib.Core.List.{[], _∷_, _++_}
-use Prim.Native.Nat.{ℕ, _<_}
+use Prim.Native.Nat.{ℕ}
 use native.Mathlib.Omega.{arith}
 use lib.Dec.{ltb}
 use borrow.Author.Tests.{ltb-true}
@@ -14,39 +14,17 @@ use Rattle.sizes.specs.declared.partition.Sizes.{Sizes}
 use Rattle.sizes.specs.declared.toiallocator.ToiAllocator.{ToiAllocator}
 use Rattle.sizes.proofs.AllocatorViews.{allocated-room}
 use Rattle.lifecycle.specs.Setup.{bad-blocks}
-use Rattle.lifecycle.specs.FileDesc.{file-new}
-use Rattle.lifecycle.specs.Slots.{slot-at, is-free}
-use Rattle.lifecycle.specs.FdtCalls.{files, waits, Valid, with-tois, own-of, bad-part-of, put-of, refuses, named-of, fresh-of, numbered-of, added-of}
-use Rattle.lifecycle.specs.declared.slots.Slot.{Slot}
+use Rattle.lifecycle.specs.Slots.{is-free}
+use Rattle.lifecycle.specs.FdtCalls.{files, waits, Valid, with-tois, own-of, bad-part-of, put-of, refuses, refusal, named-of, fresh-of, numbered-of, added-of}
+use Rattle.lifecycle.specs.FdtMeans.{Seen, new-slot, Adds, refused, admits, unknown, full}
 use Rattle.lifecycle.specs.declared.fdt.Fdt.{Fdt}
 use Rattle.lifecycle.specs.declared.fdt.Added.{Added}
-use Rattle.lifecycle.specs.declared.fdt.Admission.{Admission}
 use Rattle.lifecycle.specs.declared.fdt.Admission.the-variants as AdmissionV
 use Rattle.lifecycle.specs.declared.fdt.Request.{Request}
 use Rattle.lifecycle.specs.declared.fdt.Named.{Named}
 use Rattle.lifecycle.specs.declared.fdt.Named.the-variants as NamedV
-use Rattle.lifecycle.proofs.FdtFacts.{maybe-on, if-on, Free, free-at}
-use Rattle.lifecycle.proofs.FdtViews.{Seen, seen-joins}
-
--- the slot of a new object with number t
-abbrev pub new-slot : Request → Sizes → ℕ → Slot
-new-slot q z t = record { holders = 1; listed = true; file = file-new t (q .priority) (q .part) z (q .rule) (q .start) }
-
--- where its number is from: a reservation, loose until now; or the allocator's next
-abbrev pub Numbers : Named → ℕ → ToiAllocator → ToiAllocator → Type 0
-Numbers (NamedV.Toi u) t a b = (t ≡ u) × (has u (Alloc.loose a) ≡ true) × (b ≡ Alloc.claimed-of u a .allocator)
-Numbers NamedV.Anew t a b = (t ≡ a .next) × (a .entered < toi-entries) × (b ≡ Alloc.moved-on (Alloc.noting false a))
-
-pub record Admits (f : Fdt) (q : Request) (z : Sizes) (named : Named) (k t : ℕ) (r : Added) : Type 0 where
-  pub answer : r .answer ≡ AdmissionV.Toi t
-  pub found : place is-free (f .slots) ≡ some k
-  pub free : Free (slot-at (f .slots) k)
-  pub number : Numbers named t (f .tois) (r .fdt .tois)
-  pub view : Seen f (files f ++ (new-slot q z t .file ∷ [])) k (new-slot q z t) (r .fdt)
-
-pub data Adds (f : Fdt) (q : Request) (z : Sizes) (named : Named) (r : Added) : Type 0 where
-  refused : (a : Admission) → ((t : ℕ) → a ≡ AdmissionV.Toi t → ⊥) → r ≡ refuses f a → Adds f q z named r
-  admits : (k t : ℕ) → Admits f q z named k t r → Adds f q z named r
+use Rattle.lifecycle.proofs.FdtFacts.{maybe-on, if-on, free-at}
+use Rattle.lifecycle.proofs.FdtViews.{seen-joins}
 
 module _ (f : Fdt) (v : Valid f) (q : Request) (z : Sizes) where
   pub put-view : (a : ToiAllocator) (k t : ℕ) → place is-free (f .slots) ≡ some k → Seen f (files f ++ (new-slot q z t .file ∷ [])) k (new-slot q z t) (put-of (with-tois f a) k t q z)
@@ -57,17 +35,17 @@ module _ (f : Fdt) (v : Valid f) (q : Request) (z : Sizes) where
   unfolding named-of put-of
   named-view t =
       if-on (Adds f q z (NamedV.Toi t)) (has t (Alloc.loose (f .tois)))
-      (λ l. maybe-on (Adds f q z (NamedV.Toi t)) (place is-free (f .slots)) (λ e. full)
+      (λ l. maybe-on (Adds f q z (NamedV.Toi t)) (place is-free (f .slots)) (λ e. no-room)
       (λ k e. admits k t (record { answer = refl; found = e; free = free-at f v k e .1; number = (refl, l, refl); view = put-view (Alloc.claimed-of t (f .tois) .allocator) k t e })))
       (λ l. refused AdmissionV.Unknown (λ n e. let z : _≡_ {A = ℕ} 0 1 = cc in omega arith) refl)
     where
-      full : Adds f q z (NamedV.Toi t) (refuses f AdmissionV.Full)
-      full = refused AdmissionV.Full (λ n e. let z : _≡_ {A = ℕ} 0 1 = cc in omega arith) refl
+      no-room : Adds f q z (NamedV.Toi t) (refuses f AdmissionV.Full)
+      no-room = refused AdmissionV.Full (λ n e. let z : _≡_ {A = ℕ} 0 1 = cc in omega arith) refl
 
   fresh-view : Adds f q z NamedV.Anew (fresh-of f q z)
   unfolding fresh-of put-of
   fresh-view =
-      maybe-on (Adds f q z NamedV.Anew) (place is-free (f .slots)) (λ e. full)
+      maybe-on (Adds f q z NamedV.Anew) (place is-free (f .slots)) (λ e. no-room)
       (λ k e. if-on (Adds f q z NamedV.Anew) (ltb (f .tois .entered) toi-entries)
       (λ l.
       let h = ltb-true (f .tois .entered) toi-entries l in
@@ -78,10 +56,10 @@ module _ (f : Fdt) (v : Valid f) (q : Request) (z : Sizes) where
         number = (refl, h, allocated-room (f .tois) false h);
         view = put-view (Alloc.allocated-of false (f .tois) .allocator) k (f .tois .next) e;
       }))
-      (λ l. full))
+      (λ l. no-room))
     where
-      full : Adds f q z NamedV.Anew (refuses f AdmissionV.Full)
-      full = refused AdmissionV.Full (λ n e. let z : _≡_ {A = ℕ} 0 1 = cc in omega arith) refl
+      no-room : Adds f q z NamedV.Anew (refuses f AdmissionV.Full)
+      no-room = refused AdmissionV.Full (λ n e. let z : _≡_ {A = ℕ} 0 1 = cc in omega arith) refl
 
   numbered-view : (named : Named) → Adds f q z named (numbered-of f q z named)
   unfolding numbered-of
@@ -98,24 +76,6 @@ added-view f v q named =
     numbered-view f v q z named)))
 
 -- ---- refusals 3 to 7, in their order
-
-abbrev pub refusal : Admission → Option ℕ
-refusal (AdmissionV.Toi t) = none
-refusal AdmissionV.Complete = some 3
-refusal AdmissionV.Sizes = some 4
-refusal AdmissionV.Part = some 5
-refusal AdmissionV.Unknown = some 6
-refusal AdmissionV.Full = some 7
-
--- the reservation that is named is not loose
-abbrev pub unknown : Named → Fdt → Bool
-unknown (NamedV.Toi t) f = not (has t (Alloc.loose (f .tois)))
-unknown NamedV.Anew f = false
-
--- there is no slot, or no entry for a fresh number
-abbrev pub full : Named → Fdt → Bool
-full (NamedV.Toi t) f = not (given (place is-free (f .slots)))
-full NamedV.Anew f = not (given (place is-free (f .slots))) || not (ltb (f .tois .entered) toi-entries)
 
 refused-first : (n : ℕ) (b : Bool) (x y : Added) {o : Option ℕ} → refusal (x .answer) ≡ some n → refusal (y .answer) ≡ o → refusal ((if b then x else y) .answer) ≡ (if b then some n else o)
 refused-first n true x y e h = e

@@ -1,30 +1,32 @@
--- Remove and trigger for the layer above: both find a listed object by its number, and no other held object has that number.
+-- The calls by number for the layer above: each finds a listed object by its number, and no other held object has that number.
 use mathlib.Core.Path.{_≡_, refl, sym, _∙_, ap, subst}
 use mathlib.Core.Bool.{Bool, true, false, not, _&&_, true≢false, false≢true}
 use mathlib.Core.Option.{Option, none, some}
-use mathlib.Core.List.{map}
-use Prim.Native.Nat.{ℕ, _-_, _≤_}
+use mathlib.Core.List.{List, [], _∷_, _++_}
+use Prim.Native.Nat.{ℕ, _≤_}
 use native.Mathlib.Omega.{arith}
 use lib.Dec.{eqb}
 use borrow.Author.Tests.{eqb-true, eq-eqb}
 use lib.ListN.{set}
 use lib.Seq.{getD-set-same}
-use Rattle.sizes.specs.Words.{if_then_else_, maybe, over, given, keep, find, at, cut, place, one-if, times}
+use Rattle.sizes.specs.Words.{if_then_else_, maybe, over, given, keep, find, at, cut, place, one-if, times, Counts}
 use Rattle.sizes.specs.Allocator as Alloc
-use Rattle.sizes.proofs.Tests.{Tested, pass, fail, tested, and-left}
-use Rattle.sizes.proofs.Lists.{Sought, hit, miss, sought, map-cut}
-use Rattle.sizes.proofs.Tables.{times-at, times-cut, keep-all, keep-cut, find-map, find-any, any-none, other}
-use Rattle.sizes.proofs.AllocatorViews.{Freed, freed-view}
-use Rattle.lifecycle.specs.FileDesc.{with-life, reset-life}
+use Rattle.sizes.proofs.Tests.{and-left, and-right}
+use Rattle.sizes.proofs.Lists.{Sought, hit, miss, sought, found-none, at-get, any-map, map-cut}
+use Rattle.sizes.proofs.Tables.{times-at, times-cut, keep-all, keep-cut, find-map, find-any, any-in, any-none, other}
+use Rattle.sizes.proofs.Collects.{at-inside}
+use Rattle.sizes.proofs.AllocatorViews.{freed-view}
+use Rattle.lifecycle.specs.FileDesc.{life-of, with-life, reset-life}
 use Rattle.lifecycle.specs.Slots.{no-slot, slot-at, is-listed-as}
-use Rattle.lifecycle.specs.FdtCalls.{waiting, files, sends, used, waits, Valid, listed-place, unlisted-of, freed-of, removed-of, triggered-of}
+use Rattle.lifecycle.specs.FdtCalls.{waiting, files, sends, used, waits, Valid, listed-place, transfers-of, unlisted-of, freed-of, removed-of, triggered-of}
+use Rattle.lifecycle.specs.FdtMeans.{file-at, is-not, Listed, listed-files, unlisted-slot, Removal, nobody, sent, waited, listed-but, Removes, reset-file, Triggers}
 use Rattle.lifecycle.specs.declared.filedesc.Time.{Time}
 use Rattle.lifecycle.specs.declared.filedesc.FileDesc.{FileDesc}
 use Rattle.lifecycle.specs.declared.slots.Slot.{Slot}
 use Rattle.lifecycle.specs.declared.fdt.Fdt.{Fdt}
 use Rattle.lifecycle.specs.declared.fdt.Told.{Told}
-use Rattle.lifecycle.proofs.FdtFacts.{maybe-on, if-on, used-listed, used-sends, waits-not, Waits, Listed, listed-at, waits-at, absent, number-held, queue-place}
-use Rattle.lifecycle.proofs.FdtViews.{file-at, is-not, differs, map-two, not-in, none-at, no-right, others, in-waiting, waiting-used, Seen, seen-aside, seen-leaves}
+use Rattle.lifecycle.proofs.FdtFacts.{maybe-on, if-on, one-true, used-listed, used-sends, waits-not, listed-at, waits-at, absent, number-held, queue-place}
+use Rattle.lifecycle.proofs.FdtViews.{differs, map-two, not-in, none-at, no-right, apart, others, in-waiting, waiting-used, at-each, seen-aside, seen-leaves}
 
 -- ---- a number that is looked for
 
@@ -66,17 +68,6 @@ module _ (t : ℕ) (f : Fdt) (v : Valid f) where
 
 -- ---- remove
 
-abbrev pub unlisted-slot : Slot → Slot
-unlisted-slot y = record { holders = y .holders - 1; listed = false; file = y .file }
-
--- nobody listed has the number; or it is in transfer; or it waits
-pub data Removal (t : ℕ) (f : Fdt) (r : Told) : Type 0 where
-  nobody : ((k : ℕ) → is-listed-as t (slot-at (f .slots) k) ≡ false) → files f ≡ keep (is-not t) (files f) → r ≡ record { yes = false; fdt = f } → Removal t f r
-  sent : (k : ℕ) → Listed t f k → sends (slot-at (f .slots) k) ≡ true → files f ≡ keep (is-not t) (files f) → r .yes ≡ true → r .fdt .tois ≡ f .tois
-      → Seen f (files f) k (unlisted-slot (slot-at (f .slots) k)) (r .fdt) → Removal t f r
-  waited : (k n : ℕ) → Listed t f k → Waits f n k → cut (files f) n ≡ keep (is-not t) (files f) → r .yes ≡ true → Freed t (f .tois) (r .fdt .tois)
-      → Seen f (cut (files f) n) k no-slot (r .fdt) → Removal t f r
-
 pub removed-cases : (t : ℕ) (f : Fdt) → Valid f → Removal t f (removed-of t f)
 unfolding removed-of unlisted-of freed-of
 removed-cases t f v = maybe-on (Removal t f) (listed-place t f)
@@ -94,16 +85,10 @@ removed-cases t f v = maybe-on (Removal t f) (listed-place t f)
     waited k n li (waits-at f v n k st) (cut-keep t f v k n li st) refl (freed-view (f .tois) (v .tois) t nu)
     (seen-leaves f v k (li .inn) no-slot (Alloc.dropped-of false t (f .tois) .allocator) n st))))
 
--- is it on the list once the object with the number is off it
-abbrev pub listed-but : ℕ → Slot → Bool
-listed-but t y = y .listed && is-not t (y .file)
-
--- in each case: the objects without the number wait; what is in transfer stays, and is off the list if it has the number
-pub record Removes (t : ℕ) (f r : Fdt) : Type 0 where
-  pub queue : files r ≡ keep (is-not t) (files f)
-  pub sent-same : (j : ℕ) → sends (slot-at (r .slots) j) ≡ sends (slot-at (f .slots) j)
-  pub file-same : (j : ℕ) → sends (slot-at (f .slots) j) ≡ true → file-at (r .slots) j ≡ file-at (f .slots) j
-  pub unlists : (j : ℕ) → sends (slot-at (f .slots) j) ≡ true → slot-at (r .slots) j .listed ≡ listed-but t (slot-at (f .slots) j)
+-- the answer
+pub removed-answer : (t : ℕ) (f : Fdt) → removed-of t f .yes ≡ given (listed-place t f)
+unfolding removed-of
+removed-answer t f = maybe-on (λ (x : Told). x .yes ≡ given (listed-place t f)) (listed-place t f) (λ e. sym (ap given e)) (λ k e. sym (ap given e))
 
 still : (a b : Bool) → (a && b) ≡ false → a ≡ (a && not b)
 still true b e = sym (ap not e)
@@ -116,14 +101,6 @@ kept false b e = refl
 dropped : (a b : Bool) → b ≡ true → false ≡ (a && not b)
 dropped true b e = sym (ap not e)
 dropped false b e = refl
-
--- what holds of the changed slot and of each other holds of all
-at-each : (P : ℕ → Type 0) (k : ℕ) → P k → ((j : ℕ) → eqb k j ≡ false → P j) → (j : ℕ) → P j
-at-each P k h o j = go (tested (eqb k j))
-  where
-    go : Tested (eqb k j) → P j
-    go (pass e) = subst P (eqb-true k j e) h
-    go (fail e) = o j e
 
 pub removed-view : (t : ℕ) (f : Fdt) → Valid f → Removes t f (removed-of t f .fdt)
 unfolding is-listed-as
@@ -156,14 +133,6 @@ removed-view t f v = go (removed-of t f) (removed-cases t f v)
     }
 
 -- ---- trigger
-
-abbrev pub reset-file : ℕ → Time → FileDesc → FileDesc
-reset-file t start o = if eqb (o .toi) t then with-life o (reset-life start (o .life)) else o
-
-pub record Triggers (t : ℕ) (start : Time) (f r : Fdt) : Type 0 where
-  pub queue : files r ≡ map (reset-file t start) (files f)
-  pub sent-same : (j : ℕ) → sends (slot-at (r .slots) j) ≡ sends (slot-at (f .slots) j)
-  pub same : (j : ℕ) → sends (slot-at (f .slots) j) ≡ true → slot-at (r .slots) j ≡ slot-at (f .slots) j
 
 module _ (t : ℕ) (start : Time) (f : Fdt) (v : Valid f) where
   reset-other : (o : FileDesc) → eqb (o .toi) t ≡ false → o ≡ reset-file t start o
@@ -214,9 +183,46 @@ given-none : {A : Type 0} (o : Option A) → given o ≡ false → o ≡ none
 given-none none e = refl
 given-none (some a) e = absurd (true≢false e)
 
+-- a search of two lists, one after the other
+find-append : {A : Type 0} (ok : A → Bool) (a b : List A) → find ok (a ++ b) ≡ maybe (find ok b) some (find ok a)
+find-append ok [] b = refl
+find-append ok (x ∷ a) b = elim (ok x) as (λ y. (if y then some x else find ok (a ++ b)) ≡ maybe (find ok b) some (if y then some x else find ok a))
+    [ true ↦ refl | false ↦ find-append ok a b ]
+
+-- the only number of a list that passes is found
+find-only : (ok : ℕ → Bool) (l : List ℕ) (k : ℕ) → 1 ≤ times k l → ok k ≡ true → ((j : ℕ) → 1 ≤ times j l → ok j ≡ true → j ≡ k) → find ok l ≡ some k
+find-only ok l k h e only = go (sought ok l)
+  where
+    go : Sought ok l → find ok l ≡ some k
+    go (hit m j r) = r .first ∙ ap some (only j (times-at l m j (r .stands)) (r .passes))
+    go (miss p u) = absurd (false≢true (sym (ap given (found-none ok l p .0)) ∙ find-any ok l ∙ sym (any-map ok (λ j. j) l) ∙ any-in ok (λ j. j) l k h e))
+
+-- none passes, so none is found
+find-nothing : (ok : ℕ → Bool) (l : List ℕ) → ((j : ℕ) → ok j ≡ false) → find ok l ≡ none
+find-nothing ok [] h = refl
+find-nothing ok (k ∷ l) h = rw (h k) (find-nothing ok l h)
+
+find-listed : (t : ℕ) (s : List Slot) (l : List ℕ) → find (λ (o : FileDesc). eqb (o .toi) t) (listed-files s l) ≡ over (file-at s) (find (λ k. is-listed-as t (slot-at s k)) l)
+unfolding is-listed-as
+find-listed t s [] = refl
+find-listed t s (k ∷ l) = go (slot-at s k .listed) (eqb (file-at s k .toi) t) refl (find-listed t s l)
+  where
+    ok : FileDesc → Bool
+    ok o = eqb (o .toi) t
+
+    go : (a b : Bool) → eqb (file-at s k .toi) t ≡ b → find ok (listed-files s l) ≡ over (file-at s) (find (λ k. is-listed-as t (slot-at s k)) l)
+        → find ok (maybe (listed-files s l) (λ o. o ∷ listed-files s l) (if a then some (file-at s k) else none)) ≡ over (file-at s) (if a && b then some k else find (λ k. is-listed-as t (slot-at s k)) l)
+    go false b e r = r
+    go true true e r = rw e
+    go true false e r = rw e r
+
 module _ (t : ℕ) (f : Fdt) (v : Valid f) where
   is-toi : FileDesc → Bool
   is-toi o = eqb (o .toi) t
+
+  -- a held object with the number of a listed one is that one
+  own : (k : ℕ) → Listed t f k → (j : ℕ) → used (slot-at (f .slots) j) ≡ true → eqb (file-at (f .slots) j .toi) t ≡ true → j ≡ k
+  own k li j u h = apart f v j k u (used-listed (slot-at (f .slots) k) (li .is-listed)) (eqb-true (file-at (f .slots) j .toi) t h ∙ sym (li .number))
 
   find-none : ((j : ℕ) → 1 ≤ times j (waiting f) → eqb (file-at (f .slots) j .toi) t ≡ false) → find is-toi (files f) ≡ none
   unfolding is-toi
@@ -224,15 +230,10 @@ module _ (t : ℕ) (f : Fdt) (v : Valid f) where
 
   find-own : (k n : ℕ) → Listed t f k → at (waiting f) n ≡ some k → find is-toi (files f) ≡ some (file-at (f .slots) k)
   unfolding is-toi
-  find-own k n li e = find-map is-toi (file-at (f .slots)) (waiting f) ∙ ap (over (file-at (f .slots))) (go (sought (λ j. is-toi (file-at (f .slots) j)) (waiting f)))
-    where
-      own : (j : ℕ) → used (slot-at (f .slots) j) ≡ true → eqb (file-at (f .slots) j .toi) t ≡ true → Tested (eqb k j) → j ≡ k
-      own j u h (pass q) = sym (eqb-true k j q)
-      own j u h (fail q) = absurd (false≢true (sym (others f v t k li j u q) ∙ h))
-
-      go : Sought (λ j. is-toi (file-at (f .slots) j)) (waiting f) → find (λ j. is-toi (file-at (f .slots) j)) (waiting f) ≡ some k
-      go (hit m j h) = h .first ∙ ap some (own j (waiting-used f v j (times-at (waiting f) m j (h .stands))) (h .passes) (tested (eqb k j)))
-      go (miss p u) = absurd (false≢true (sym (u n k e) ∙ eq-eqb (file-at (f .slots) k .toi) t (li .number)))
+  find-own k n li e = find-map is-toi (file-at (f .slots)) (waiting f)
+      ∙ ap (over (file-at (f .slots)))
+      (find-only (λ j. is-toi (file-at (f .slots) j)) (waiting f) k (times-at (waiting f) n k e) (eq-eqb (file-at (f .slots) k .toi) t (li .number))
+      (λ j u h. own k li j (waiting-used f v j u) h))
 
   -- it is the one in the slot that is found, if that waits
   pub find-view : find (λ (o : FileDesc). eqb (o .toi) t) (files f) ≡ maybe none (λ k. if sends (slot-at (f .slots) k) then none else some (file-at (f .slots) k)) (listed-place t f)
@@ -246,3 +247,91 @@ module _ (t : ℕ) (f : Fdt) (v : Valid f) where
       (λ s. maybe-on (λ o. find is-toi (files f) ≡ some (file-at (f .slots) k)) {d = 0} {g = λ n. n} (place (λ j. eqb j k) (waiting f))
       (λ q. absurd (in-queue t f v k li s q))
       (λ n q. find-own k n li (queue-place f v k n q))))
+
+  -- the listed slot in transfer with the number is the one that is found, if that is in transfer
+  pub find-sent : find (λ (y : Slot). sends y && is-listed-as t y) (f .slots) ≡ maybe none (λ k. if sends (slot-at (f .slots) k) then some (slot-at (f .slots) k) else none) (listed-place t f)
+  unfolding is-listed-as
+  find-sent = go (sought sent-as (f .slots))
+    where
+      sent-as : Slot → Bool
+      sent-as y = sends y && is-listed-as t y
+
+      go : Sought sent-as (f .slots) → find sent-as (f .slots) ≡ maybe none (λ k. if sends (slot-at (f .slots) k) then some (slot-at (f .slots) k) else none) (listed-place t f)
+      go (hit m x h) = (
+          let y = slot-at (f .slots) m in
+          let a = at-get no-slot (f .slots) m x (h .stands) .0 in
+          let o : (sends y && is-listed-as t y) ≡ true = subst (λ z. sent-as z ≡ true) (sym a) (h .passes) in
+          let s = and-left (sends y) (is-listed-as t y) o in
+          let g = and-right (sends y) (is-listed-as t y) o in
+          h .first ∙ ap some (sym a) ∙ maybe-on (λ z. some y ≡ z) (listed-place t f)
+          (λ e. absurd (false≢true (sym (none-listed t f e m) ∙ g)))
+          (λ k e.
+          let q = own k (listed-at t f k e) m (used-sends y s) (and-right (y .listed) (eqb (y .file .toi) t) g) in
+          subst (λ j. some y ≡ (if sends (slot-at (f .slots) j) then some (slot-at (f .slots) j) else none)) q (rw s)))
+      go (miss p u) = found-none sent-as (f .slots) p .0 ∙ maybe-on (λ (z : Option Slot). none ≡ z) (listed-place t f) (λ e. refl) (λ k e.
+          let y = slot-at (f .slots) k in
+          let li = listed-at t f k e in
+          if-on (λ (z : Option Slot). none ≡ z) (sends y)
+          (λ s. absurd (false≢true (sym (u k y (at-inside no-slot (f .slots) k (li .inn))) ∙ (λ i. s i && (li .is-listed i && eq-eqb (y .file .toi) t (li .number) i)))))
+          (λ s. refl))
+
+  -- the total of the object that waits with the number, else of the listed one in transfer, else none
+  pub transfers-view : transfers-of t f ≡ maybe
+      (over (λ (y : Slot). y .file .life .total) (find (λ (y : Slot). sends y && is-listed-as t y) (f .slots)))
+      (λ (o : FileDesc). some (life-of (o .life) .total))
+      (find (λ (o : FileDesc). eqb (o .toi) t) (files f))
+  unfolding transfers-of
+  transfers-view = both (listed-place t f) ∙ (λ i. maybe (over (λ (y : Slot). y .file .life .total) (sym find-sent i)) (λ (o : FileDesc). some (life-of (o .life) .total)) (sym find-view i))
+    where
+      both : (o : Option ℕ) → maybe none (λ k. some (slot-at (f .slots) k .file .life .total)) o ≡ maybe
+          (over (λ (y : Slot). y .file .life .total) (maybe none (λ k. if sends (slot-at (f .slots) k) then some (slot-at (f .slots) k) else none) o))
+          (λ (o : FileDesc). some (life-of (o .life) .total))
+          (maybe none (λ k. if sends (slot-at (f .slots) k) then none else some (file-at (f .slots) k)) o)
+      both none = refl
+      both (some k) = elim (sends (slot-at (f .slots) k)) as (λ b. some (slot-at (f .slots) k .file .life .total) ≡ maybe
+          (over (λ (y : Slot). y .file .life .total) (if b then some (slot-at (f .slots) k) else none))
+          (λ (o : FileDesc). some (life-of (o .life) .total))
+          (if b then none else some (file-at (f .slots) k))) [ true ↦ refl | false ↦ refl ]
+
+  -- with any list that has each slot in transfer once: the listed objects are those that wait, then the listed ones of that list
+  module _ (l : List ℕ) (c : Counts no-slot sends (f .slots) l) where
+    pub listed-view : find (λ (o : FileDesc). eqb (o .toi) t) (files f ++ listed-files (f .slots) l) ≡ over (file-at (f .slots)) (listed-place t f)
+    unfolding is-listed-as
+    listed-view =
+        find-append (λ (o : FileDesc). eqb (o .toi) t) (files f) (listed-files (f .slots) l)
+        ∙ (λ i. maybe (find-listed t (f .slots) l i) some (find-view i))
+        ∙ go (listed-place t f) refl
+      where
+        ok : ℕ → Bool
+        ok k = is-listed-as t (slot-at (f .slots) k)
+
+        in-list : (j : ℕ) → 1 ≤ times j l → sends (slot-at (f .slots) j) ≡ true
+        in-list j u = one-true (sends (slot-at (f .slots) j)) (let a = c j in omega arith)
+
+        found : (k : ℕ) → Listed t f k → (b : Bool) → sends (slot-at (f .slots) k) ≡ b → maybe (over (file-at (f .slots)) (find ok l)) some (if b then none else some (file-at (f .slots) k)) ≡ some (file-at (f .slots) k)
+        found k li true s = ap (over (file-at (f .slots)))
+            (find-only ok l k (let a = c k in let b = ap one-if s in omega arith) (λ i. li .is-listed i && eq-eqb (file-at (f .slots) k .toi) t (li .number) i)
+            (λ j u h. let y = slot-at (f .slots) j in own k li j (used-sends y (in-list j u)) (and-right (y .listed) (eqb (y .file .toi) t) h)))
+        found k li false s = refl
+
+        go : (o : Option ℕ) → listed-place t f ≡ o
+            → maybe (over (file-at (f .slots)) (find ok l)) some (maybe none (λ k. if sends (slot-at (f .slots) k) then none else some (file-at (f .slots) k)) o) ≡ over (file-at (f .slots)) o
+        go none e = ap (over (file-at (f .slots))) (find-nothing ok l (none-listed t f e))
+        go (some k) e = found k (listed-at t f k e) (sends (slot-at (f .slots) k)) refl
+
+    -- is one listed with the number
+    pub listed-given : given (listed-place t f) ≡ given (find (λ (o : FileDesc). eqb (o .toi) t) (files f ++ listed-files (f .slots) l))
+    listed-given = go (listed-place t f) ∙ sym (ap given listed-view)
+      where
+        go : (o : Option ℕ) → given o ≡ given (over (file-at (f .slots)) o)
+        go none = refl
+        go (some k) = refl
+
+    -- its total
+    pub transfers-listed : transfers-of t f ≡ maybe none (λ (o : FileDesc). some (life-of (o .life) .total)) (find (λ (o : FileDesc). eqb (o .toi) t) (files f ++ listed-files (f .slots) l))
+    unfolding transfers-of
+    transfers-listed = go (listed-place t f) ∙ sym (ap (maybe none (λ (o : FileDesc). some (life-of (o .life) .total))) listed-view)
+      where
+        go : (o : Option ℕ) → maybe none (λ k. some (slot-at (f .slots) k .file .life .total)) o ≡ maybe none (λ (o : FileDesc). some (life-of (o .life) .total)) (over (file-at (f .slots)) o)
+        go none = refl
+        go (some k) = refl

@@ -21,6 +21,7 @@ use Rattle.sizes.proofs.Tables.{times-at, times-cut, inside, set-all, tally-lt,
 use Rattle.sizes.proofs.Collects.{adds, at-inside, collect-set, collect-at}
 use Rattle.lifecycle.specs.Slots.{no-slot, slot-at, is-free, is-listed-as}
 use Rattle.lifecycle.specs.FdtCalls.{waiting, sends, used, waits, Tidy, Valid, with-objects, listed-place}
+use Rattle.lifecycle.specs.FdtMeans.{Waits, Free, Listed}
 use Rattle.lifecycle.specs.declared.slots.Slot.{Slot}
 use Rattle.lifecycle.specs.declared.fdt.Fdt.{Fdt}
 
@@ -64,26 +65,6 @@ pub waits-not : (v : Slot) → sends v ≡ true → waits v ≡ false
 waits-not v e = and-not (v .listed) (sends v) e
 
 -- ---- a slot in its place
-
--- it stands at place n of the queue
-pub record Waits (f : Fdt) (n k : ℕ) : Type 0 where
-  pub inn : k < length (f .slots)
-  pub is-listed : slot-at (f .slots) k .listed ≡ true
-  pub unsent : sends (slot-at (f .slots) k) ≡ false
-  pub early : n < f .queued
-  pub here : getD (f .queue) n 0 ≡ k
-  pub gone : times k (cut (waiting f) n) ≡ 0
-
--- nobody holds it
-pub record Free (v : Slot) : Type 0 where
-  pub blank : v ≡ no-slot
-  pub unused : used v ≡ false
-
--- it is the listed one with the number t
-pub record Listed (t : ℕ) (f : Fdt) (k : ℕ) : Type 0 where
-  pub inn : k < length (f .slots)
-  pub is-listed : slot-at (f .slots) k .listed ≡ true
-  pub number : slot-at (f .slots) k .file .toi ≡ t
 
 pub listed-at : (t : ℕ) (f : Fdt) (k : ℕ) → listed-place t f ≡ some k → Listed t f k
 unfolding is-listed-as

@@ -5,12 +5,11 @@ use mathlib.Core.Option.{Option, none, some}
 use mathlib.Core.List.{List, [], _∷_}
 use Prim.Native.Nat.{ℕ, _+_, _≤_, _<_}
 use native.Mathlib.Omega.{arith}
-use lib.Dec.{eqb, ltb, leb}
-use borrow.Author.Tests.{eq-eqb, eqb-true, lt-leb, le-leb}
+use lib.Dec.{eqb, ltb}
+use borrow.Author.Tests.{eq-eqb, eqb-true}
 use lib.ListN.{getD, set, List·getD-eq-default}
-use Rattle.sizes.specs.Words.{has, place, Each, one-if, times, within}
-use Rattle.sizes.specs.Limits.{object-slots, toi-entries, largest-symbol, largest-block, most-blocks}
-use Rattle.sizes.specs.Partition.{blocks-of}
+use Rattle.sizes.specs.Words.{has, place, Each, one-if, times}
+use Rattle.sizes.specs.Limits.{object-slots, toi-entries}
 use Rattle.sizes.specs.Allocator as Alloc
 use Rattle.sizes.specs.declared.partition.Sizes.{Sizes}
 use Rattle.sizes.specs.declared.toiallocator.ToiAllocator.{ToiAllocator}
@@ -20,11 +19,11 @@ use Rattle.sizes.proofs.Lists.{found-first, at-take, at-get}
 use Rattle.sizes.proofs.Arrays.{each-get}
 use Rattle.sizes.proofs.Tables.{inside}
 use Rattle.lifecycle.proofs.FdtFacts as Facts
-use Rattle.lifecycle.proofs.FdtFacts.{sent-held}
+use Rattle.lifecycle.proofs.FdtFacts.{one-true, sent-held}
 use Rattle.lifecycle.specs.Lifecycle.{expired}
 use Rattle.lifecycle.specs.FileDesc.{plan-of, life-of, with-life, reset-life}
 use Rattle.lifecycle.specs.Slots.{no-slot, slot-at, place-said, is-free, is-listed-as, queue-startable}
-use Rattle.lifecycle.specs.Setup.{bad-blocks, sound-sizes}
+use Rattle.lifecycle.specs.Setup.{bad-blocks}
 use Rattle.lifecycle.specs.FdtCalls.{waiting, sends, waits, Valid, with-tois, with-slots, own-of, bad-part-of, put-of, refuses, named-of, fresh-of, numbered-of, added-of, transfers-of, unlisted-of, freed-of, removed-of, triggered-of, taken-at, taken-of, ended-file, goes-back, back-of, let-go-of, done-of}
 use Rattle.lifecycle.specs.declared.filedesc.Time.{Time}
 use Rattle.lifecycle.specs.declared.slots.Slot.{Slot}
@@ -34,10 +33,6 @@ use Rattle.lifecycle.specs.declared.fdt.Fdt.{Fdt}
 use Rattle.lifecycle.specs.declared.fdt.Named.{Named}
 use Rattle.lifecycle.specs.declared.fdt.Request.{Request}
 use Rattle.lifecycle.specs.declared.fdt.Admission.the-variants as AdmissionV
-
-one : (b : Bool) → 1 ≤ one-if b → b ≡ true
-one true h = refl
-one false h = absurd (omega arith)
 
 one-most : (b : Bool) → one-if b ≤ 1
 one-most true = omega arith
@@ -74,7 +69,7 @@ module _ (f : Fdt) (v : Valid f) where
 
   -- a number in the queue is that of a slot
   pub queue-inside : Each (λ k. k < object-slots) (waiting f)
-  queue-inside = each-in (λ k. k < object-slots) (waiting f) (λ k h. slot-inside waits k refl (one (waits (slot-at (f .slots) k)) (let r = v .in-queue k in omega arith)))
+  queue-inside = each-in (λ k. k < object-slots) (waiting f) (λ k h. slot-inside waits k refl (one-true (waits (slot-at (f .slots) k)) (let r = v .in-queue k in omega arith)))
 
   -- where a slot does not wait, there is room in the queue
   pub room : (k : ℕ) → k < object-slots → waits (slot-at (f .slots) k) ≡ false → f .queued < object-slots
@@ -113,41 +108,6 @@ module _ (f : Fdt) (v : Valid f) where
       (g, omega arith, each-get (λ k. k < object-slots) (f .queued) (f .queue) (omega arith) n 0 g queue-inside)
 
 -- ---- add
-
-low : (n h : ℕ) → n ≡ 0 → within 1 h n ≡ false
-low n h e = ap (λ b. b && leb n h) (lt-leb 1 n (omega arith))
-
-high : (n h : ℕ) → h < n → within 1 h n ≡ false
-high n h e = ap (λ b. leb 1 n && b) (lt-leb n h e) ∙ and-false (leb 1 n)
-
-ranged : (n h : ℕ) → (n ≡ 0 → ⊥) → n ≤ h → within 1 h n ≡ true
-ranged n h a b = ap (λ x. x && leb n h) (le-leb 1 n (omega arith)) ∙ le-leb n h b
-
--- E or B out of its range, or else the block count
-module _ (z : Sizes) (l : ℕ) where
-  bad-symbol : within 1 largest-symbol (z .e) ≡ false → bad-blocks z l ≡ true
-  unfolding bad-blocks sound-sizes
-  bad-symbol e = rw e
-
-  bad-block : within 1 largest-block (z .b) ≡ false → bad-blocks z l ≡ true
-  unfolding bad-blocks sound-sizes
-  bad-block e = rw (e, and-false (within 1 largest-symbol (z .e)))
-
-  pub no-symbol : z .e ≡ 0 → bad-blocks z l ≡ true
-  no-symbol e = bad-symbol (low (z .e) largest-symbol e)
-
-  pub long-symbol : largest-symbol < z .e → bad-blocks z l ≡ true
-  long-symbol h = bad-symbol (high (z .e) largest-symbol h)
-
-  pub no-block : z .b ≡ 0 → bad-blocks z l ≡ true
-  no-block e = bad-block (low (z .b) largest-block e)
-
-  pub long-block : largest-block < z .b → bad-blocks z l ≡ true
-  long-block h = bad-block (high (z .b) largest-block h)
-
-  pub blocks-counted : (z .e ≡ 0 → ⊥) → z .e ≤ largest-symbol → (z .b ≡ 0 → ⊥) → z .b ≤ largest-block → bad-blocks z l ≡ ltb most-blocks (blocks-of z l .blocks)
-  unfolding bad-blocks sound-sizes
-  blocks-counted a b c d = rw (ranged (z .e) largest-symbol a b, ranged (z .b) largest-block c d)
 
 module _ (f : Fdt) (q : Request) (z : Sizes) (t : ℕ) where
   pub named-unknown : has t (Alloc.loose (f .tois)) ≡ false → named-of f q z t ≡ refuses f AdmissionV.Unknown

@@ -16,12 +16,12 @@ use Rattle.sizes.proofs.Tables.{find-any, tally-all, tally-lt, counts-length, a
 use Rattle.lifecycle.specs.Parts.{shares}
 use Rattle.lifecycle.specs.Slots.{no-slot, slot-at, is-free, is-listed-as, holds-byte}
 use Rattle.lifecycle.specs.FdtCalls.{waiting, files, sends, used, waits, Tidy, Valid, is-added-of}
+use Rattle.lifecycle.specs.FdtMeans.{file-at}
 use Rattle.lifecycle.specs.declared.parts.Part.{Part}
 use Rattle.lifecycle.specs.declared.filedesc.FileDesc.{FileDesc}
 use Rattle.lifecycle.specs.declared.slots.Slot.{Slot}
 use Rattle.lifecycle.specs.declared.fdt.Fdt.{Fdt}
 use Rattle.lifecycle.proofs.FdtFacts.{free-at}
-use Rattle.lifecycle.proofs.FdtViews.{file-at}
 
 -- a slot is free exactly if it is not used
 pub free-used : (y : Slot) → Tidy y → is-free y ≡ not (used y)

@@ -25,6 +25,7 @@ use Rattle.lifecycle.specs.FileDesc.{plan-of, life-of, with-life, starte
 use Rattle.lifecycle.specs.Announce.{FdtValid}
 use Rattle.lifecycle.specs.Slots.{no-slot, slot-at, is-free, queue-startable, published-slot}
 use Rattle.lifecycle.specs.FdtCalls.{waiting, sends, used, waits, used-tois, Tidy, Valid, with-tois, with-slots, completed-of, reserved-of, released-of, own-of, bad-part-of, put-of, named-of, fresh-of, numbered-of, added-of, listed-place, unlisted-of, freed-of, removed-of, triggered-of, taken-at, taken-of, ended-file, goes-back, back-of, let-go-of, done-of}
+use Rattle.lifecycle.specs.FdtMeans.{Listed}
 use Rattle.lifecycle.specs.declared.filedesc.Time.{Time}
 use Rattle.lifecycle.specs.declared.slots.Slot.{Slot}
 use Rattle.lifecycle.specs.declared.fdt.Fdt.{Fdt}
@@ -34,7 +35,7 @@ use Rattle.lifecycle.specs.declared.fdt.Added.{Added}
 use Rattle.lifecycle.specs.declared.fdt.Request.{Request}
 use Rattle.lifecycle.specs.declared.fdt.Named.{Named}
 use Rattle.lifecycle.specs.declared.fdt.Named.the-variants as NamedV
-use Rattle.lifecycle.proofs.FdtFacts.{maybe-on, if-on, toi-in, toi-used, used-listed, used-sends, waits-not, Listed, listed-at, waits-at, room, number-held, queue-place, free-at, queue-same, queue-shut, queue-push, waiting-shut, waiting-push, valid-changed}
+use Rattle.lifecycle.proofs.FdtFacts.{maybe-on, if-on, toi-in, toi-used, used-listed, used-sends, waits-not, listed-at, waits-at, room, number-held, queue-place, free-at, queue-same, queue-shut, queue-push, waiting-shut, waiting-push, valid-changed}
 
 -- ---- set-up
 

@@ -1,4 +1,4 @@
--- What each call is for the layer above: the objects that wait, in order, and the slots in transfer.
+-- Take, done and publish for the layer above: the objects that wait, in order, and the slots in transfer.
 use mathlib.Core.Path.{_≡_, refl, sym, _∙_, ap, subst}
 use mathlib.Core.Bool.{Bool, true, false, not, _&&_, true≢false, false≢true}
 use mathlib.Core.Option.{none, some}
@@ -16,24 +16,15 @@ use Rattle.sizes.proofs.Tests.{Tested, pass, fail, tested, and-left, none≢som
 use Rattle.sizes.proofs.Lists.{Hit, Sought, hit, miss, sought, found-first, found-none, at-map, map-append, map-cut, has-none}
 use Rattle.sizes.proofs.Tables.{map-in, find-any, inside, other, none-get}
 use Rattle.sizes.proofs.Collects.{adds, at-inside, collect-set, collect-at}
-use Rattle.sizes.proofs.AllocatorViews.{Freed, held-split, freed-view}
-use Rattle.lifecycle.specs.FileDesc.{with-life, started-life, published-life, startable-file}
+use Rattle.sizes.proofs.AllocatorViews.{held-split, freed-view}
+use Rattle.lifecycle.specs.FileDesc.{startable-file}
 use Rattle.lifecycle.specs.Slots.{no-slot, slot-at, queue-startable, published-slot}
-use Rattle.lifecycle.specs.FdtCalls.{waiting, files, sends, used, waits, Valid, with-slots, with-objects, taken-at, taken-of, ended-file, goes-back, back-of, let-go-of, done-of}
-use Rattle.lifecycle.specs.declared.filedesc.FileDesc.{FileDesc}
+use Rattle.lifecycle.specs.FdtCalls.{waiting, files, sends, used, waits, Valid, with-slots, with-objects, taken-at, taken-of, goes-back, back-of, let-go-of, done-of}
+use Rattle.lifecycle.specs.FdtMeans.{file-at, Listed, Seen, started-slot, Takes, nothing, takes, ended-slot, Ends, idle, back, gone, published-file}
 use Rattle.lifecycle.specs.declared.slots.Slot.{Slot}
-use Rattle.lifecycle.specs.declared.slots.Place.the-variants.{At, Nothing}
+use Rattle.lifecycle.specs.declared.slots.Place.the-variants.{At}
 use Rattle.lifecycle.specs.declared.fdt.Fdt.{Fdt}
-use Rattle.lifecycle.specs.declared.fdt.Taken.{Taken}
-use Rattle.lifecycle.proofs.FdtFacts.{maybe-on, if-on, one-true, toi-in, toi-used, used-listed, used-sends, waits-not, Waits, Listed, waits-at, absent, room, number-held, waiting-shut, waiting-push}
-
--- the object in a slot
-abbrev pub file-at : List Slot → ℕ → FileDesc
-file-at t k = slot-at t k .file
-
--- is it not the object with this number
-abbrev pub is-not : ℕ → FileDesc → Bool
-is-not t o = not (eqb (o .toi) t)
+use Rattle.lifecycle.proofs.FdtFacts.{maybe-on, if-on, one-true, toi-in, toi-used, used-listed, used-sends, waits-not, waits-at, absent, room, number-held, waiting-shut, waiting-push}
 
 -- a number that is in is not one that is out
 pub differs : (k j : ℕ) (l : List ℕ) → times k l ≡ 0 → 1 ≤ times j l → eqb k j ≡ false
@@ -109,11 +100,13 @@ module _ (f : Fdt) (v : Valid f) where
 
 -- ---- slot k changed, and the queue with it
 
--- the objects that wait are l, slot k is w, and every other slot is as it was
-pub record Seen (f : Fdt) (l : List FileDesc) (k : ℕ) (w : Slot) (r : Fdt) : Type 0 where
-  pub queue : files r ≡ l
-  pub new : slot-at (r .slots) k ≡ w
-  pub same : (j : ℕ) → eqb k j ≡ false → slot-at (r .slots) j ≡ slot-at (f .slots) j
+-- what holds of the changed slot and of each other holds of all
+pub at-each : (P : ℕ → Type 0) (k : ℕ) → P k → ((j : ℕ) → eqb k j ≡ false → P j) → (j : ℕ) → P j
+at-each P k h o j = go (tested (eqb k j))
+  where
+    go : Tested (eqb k j) → P j
+    go (pass e) = subst P (eqb-true k j e) h
+    go (fail e) = o j e
 
 module _ (f : Fdt) (v : Valid f) (k : ℕ) (inn : k < length (f .slots)) (w : Slot) (a : ToiAllocator) where
   -- it does not wait, and the queue stays
@@ -149,15 +142,6 @@ module _ (f : Fdt) (v : Valid f) (k : ℕ) (inn : k < length (f .slots)) (w : Sl
 
 -- ---- take
 
-abbrev pub started-slot : ℕ → Slot → Slot
-started-slot now y = record { holders = y .holders + 1; listed = y .listed; file = with-life (y .file) (started-life (y .file .rule) now (y .file .life)) }
-
--- nothing may start; or the first of the queue that may is taken
-pub data Takes (p now : ℕ) (f : Fdt) (r : Taken) : Type 0 where
-  nothing : place (startable-file p now) (files f) ≡ none → r ≡ record { answer = Nothing; fdt = f } → Takes p now f r
-  takes : (n k : ℕ) → Hit (startable-file p now) (files f) n (file-at (f .slots) k) → Waits f n k → r .answer ≡ At k
-      → Seen f (cut (files f) n) k (started-slot now (slot-at (f .slots) k)) (r .fdt) → Takes p now f r
-
 module _ (f : Fdt) (v : Valid f) where
   pub startable-place : (p now : ℕ) → place (startable-file p now) (files f) ≡ place (queue-startable (f .slots) p now) (waiting f)
   unfolding queue-startable
@@ -180,17 +164,6 @@ module _ (f : Fdt) (v : Valid f) where
 
 -- ---- done
 
-abbrev pub ended-slot : ℕ → Slot → Slot
-ended-slot now y = record { holders = y .holders - 1; listed = y .listed; file = ended-file now y }
-
--- it was not in transfer; or it goes to the queue's end; or it is let go
-pub data Ends (now k : ℕ) (f r : Fdt) : Type 0 where
-  idle : sends (slot-at (f .slots) k) ≡ false → r ≡ f → Ends now k f r
-  back : sends (slot-at (f .slots) k) ≡ true → goes-back now (slot-at (f .slots) k) ≡ true → r .tois ≡ f .tois
-      → Seen f (files f ++ (ended-file now (slot-at (f .slots) k) ∷ [])) k (ended-slot now (slot-at (f .slots) k)) r → Ends now k f r
-  gone : sends (slot-at (f .slots) k) ≡ true → goes-back now (slot-at (f .slots) k) ≡ false → Freed (file-at (f .slots) k .toi) (f .tois) (r .tois)
-      → Seen f (files f) k no-slot r → Ends now k f r
-
 pub done-view : (f : Fdt) → Valid f → (now k : ℕ) → Ends now k f (done-of now k f)
 unfolding done-of back-of let-go-of
 done-view f v now k =
@@ -205,9 +178,6 @@ done-view f v now k =
     (λ s. idle s refl)
 
 -- ---- publish
-
-abbrev pub published-file : FileDesc → FileDesc
-published-file o = with-life o (published-life (o .life))
 
 pub published-at : (t : List Slot) (k : ℕ) → slot-at (map published-slot t) k ≡ published-slot (slot-at t k)
 unfolding published-slot

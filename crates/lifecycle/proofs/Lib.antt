@@ -10,4 +10,5 @@ pub mod FdtViews
 pub mod FdtByNumber
 pub mod FdtSearches
 pub mod FdtAdds
+pub mod FdtSent
 pub mod PublishLaws

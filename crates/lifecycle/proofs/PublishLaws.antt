@@ -1,7 +1,6 @@
 -- Laws of the FDT calls: what they answer, put together from their steps.
 use mathlib.Core.Path.{_≡_, refl, sym, _∙_, ap}
-use mathlib.Core.Bool.{Bool, true, false}
-use mathlib.Core.Bool.{_||_}
+use mathlib.Core.Bool.{Bool, true, false, _||_}
 use mathlib.Core.List.{[], map}
 use Prim.Native.Nat.{ℕ, _<_, _≤_}
 use lib.Dec.{eqb, leb}
@@ -9,7 +8,10 @@ use borrow.Author.Tests.{lt-ltb, leb-false}
 use Rattle.sizes.specs.Words.{if_then_else_}
 use Rattle.sizes.specs.Limits.{waiting-fdts, largest-fdt-id}
 use Rattle.sizes.specs.Allocator as Alloc
+use Rattle.sizes.specs.declared.toiallocator.ToiMaxLength.{ToiMaxLength}
 use Rattle.sizes.specs.declared.toiallocator.ToiAllocator.{ToiAllocator}
+use Rattle.sizes.proofs.AllocatorLaws.{valid-opening as valid-numbers}
+use Rattle.sizes.proofs.AllocatorViews.{opened-view}
 use Rattle.lifecycle.specs.Setup.{bad-blocks}
 use Rattle.lifecycle.specs.Slots.{published-slot}
 use Rattle.lifecycle.specs.Announce as Ann
@@ -96,3 +98,7 @@ valid-fdt-done now f v = with-side f (Ann.done-of now (f .announcer)) (valid-don
 pub valid-opening-fdt : (z : Settings) (a : ToiAllocator) (id : ℕ) → Alloc.Valid a → Alloc.bound a ≡ [] → id ≤ largest-fdt-id → Valid (opening-fdt z a id)
 unfolding opening-fdt
 valid-opening-fdt z a id v b h = opening (opening-fdt z a id) v b refl refl refl (valid-opening id h)
+
+-- with the allocator that set-up makes
+pub valid-opened : (z : Settings) (w : ToiMaxLength) (first id : ℕ) → id ≤ largest-fdt-id → Valid (opening-fdt z (Alloc.opening (Alloc.bits w) first) id)
+valid-opened z w first id h = valid-opening-fdt z (Alloc.opening (Alloc.bits w) first) id (valid-numbers w first) (opened-view (Alloc.bits w) first .1) h

@@ -255,6 +255,15 @@ publication-said PublicationV.Sizes = Alloc.Said.refused 4
 publication-said PublicationV.Part = Alloc.Said.refused 5
 publication-said PublicationV.Full = Alloc.Said.refused 7
 
+-- what an add's answer says: document 01's number of the refusal; none where the object was admitted
+abbrev pub refusal : Admission → Option ℕ
+refusal (AdmissionV.Toi t) = none
+refusal AdmissionV.Complete = some 3
+refusal AdmissionV.Sizes = some 4
+refusal AdmissionV.Part = some 5
+refusal AdmissionV.Unknown = some 6
+refusal AdmissionV.Full = some 7
+
 -- publish, refusals 4, 5 and 7 in their order
 unfoldable pub publish-of : ℕ → Part → Fdt → Published
 publish-of now c f =

@@ -1,4 +1,4 @@
--- The definition: Parts, Lifecycle, Setup, Fdt. The code's records in its words: FileDesc.
+-- The definition: Parts, Lifecycle, Setup, Fdt. The code's records in its words: FileDesc. What its calls mean for the layer above: FdtMeans.
 pub mod Parts
 pub mod Lifecycle
 pub mod Setup
@@ -7,3 +7,4 @@ pub mod FileDesc
 pub mod Announce
 pub mod Slots
 pub mod FdtCalls
+pub mod FdtMeans

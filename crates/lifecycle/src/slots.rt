@@ -1,8 +1,6 @@
 // The slots of held objects, and the queue of those that wait.
 ghost use mathlib.Core.Path.{_≡_};
-ghost use Prim.Native.Nat.{ℕ, _<_, _≤_};
 ghost use mathlib.Core.List.{map};
-ghost use lib.Dec.{eqb};
 ghost use Rattle.sizes.specs.Words.{place, any};
 ghost use Rattle.lifecycle.specs.Slots.{no-slot, place-said, is-free, is-listed-as, holds-byte, published-slot};
 use crate::filedesc::Carousel;

@@ -8,7 +8,7 @@ use native.Mathlib.Omega.{arith}
 use native.Mathlib.Numerals.{add-one}
 use lib.ListN.{length, set, getD, take, drop, drop-of-length-le}
 use lib.Seq.{drop-cons, getD-take, length-take-le}
-use Rattle.sizes.specs.Words.{over, any, cut, place, shut, Each}
+use Rattle.sizes.specs.Words.{over, any, all, cut, place, shut, Each}
 
 -- a search from the front over the first n elements: what is left to do after i turns comes to the same
 module _ {A : Type 0} (ok : A → Bool) (n : ℕ) (l : List A) (long : n ≤ length l) (i : ℕ) where
@@ -29,6 +29,15 @@ module _ {A : Type 0} (ok : A → Bool) (n : ℕ) (l : List A) (long : n ≤ len
 
   pub any-end : n ≤ i → any ok (drop i (take n l)) ≡ false
   any-end h = rw (drop-of-length-le (take n l) (past h))
+
+  pub all-hit : (z : A) → i < n → ok (getD l i z) ≡ true → all ok (drop i (take n l)) ≡ all ok (drop (i + 1) (take n l))
+  all-hit z h e = rw (next z h, e)
+
+  pub all-miss : (z : A) → i < n → ok (getD l i z) ≡ false → all ok (drop i (take n l)) ≡ false
+  all-miss z h e = rw (next z h, e)
+
+  pub all-end : n ≤ i → all ok (drop i (take n l)) ≡ true
+  all-end h = rw (drop-of-length-le (take n l) (past h))
 
   -- the place that is still to be found, counted from the front
   abbrev pub ahead : Option ℕ

@@ -54,7 +54,8 @@ module _ (p : Partition) where
   sums zero = sym begins
   sums (suc n) = rw (sums n, ← add-one n) (sym (follows n))
 
-  rises : (k d : ℕ) → first k ≤ first (k + d)
+  -- a later block begins no earlier
+  pub rises : (k d : ℕ) → first k ≤ first (k + d)
   rises k zero =
       let z : k + 0 ≡ k = omega arith in
       rw z (omega arith)

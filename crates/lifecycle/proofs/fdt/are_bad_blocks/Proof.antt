@@ -1,6 +1,6 @@
 use mathlib.Core.Path.{sym}
 use borrow.Author.Needs.{needs}
-use Rattle.lifecycle.proofs.FdtLaws.{no-symbol, long-symbol, no-block, long-block, blocks-counted}
+use Rattle.lifecycle.proofs.SetupLaws.{no-symbol, long-symbol, no-block, long-block, blocks-counted}
 use mathlib.Core.Logic.{⊎-elim}
 use borrow.Author.Tests.{ltb-true, ltb-false}
 use Rattle.lifecycle.proofs.fdt.are_bad_blocks.Statement.{statement}

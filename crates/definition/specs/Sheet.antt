@@ -1,0 +1,201 @@
+-- Examples, computed from the definition: the bench sheet, three transfers and two runs. Proved in proofs/Sheet and proofs/Trial.
+use mathlib.Core.Path.{_≡_}
+use mathlib.Core.Bool.{Bool, true, false}
+use mathlib.Core.Option.{Option, none, some}
+use mathlib.Core.List.{List, [], _∷_, map}
+use Prim.Native.Nat.{ℕ, zero, suc, _-_, _^_}
+use Rattle.sizes.specs.Words.{maybe, one-if}
+use Rattle.sizes.specs.Partition.{sbn, blocks-of, block-length}
+use Rattle.sizes.specs.declared.partition.Sizes.{Sizes}
+use Rattle.sizes.specs.Toi.{first-toi, next-toi}
+use Rattle.lifecycle.specs.declared.parts.Part.{Part}
+use Rattle.lifecycle.specs.Lifecycle.{Carousel, Target, tick-of}
+use Rattle.lifecycle.specs.Setup.{Setup}
+use Rattle.lifecycle.specs.Fdt.{runs-out}
+use Rattle.definition.specs.Encoder.{Encoder, Symbol, fresh, read}
+use Rattle.definition.specs.FdtSession.{Packet}
+use Rattle.definition.specs.Desk.{Request, Call, Answer, opening, run}
+
+-- ---- the bench sheet
+
+-- l bytes in symbols of e and blocks of b: large, small, I, N
+unfoldable pub parts : ℕ → ℕ → ℕ → List ℕ
+parts l e b = let p = blocks-of (record { e = e; b = b }) l in p .large ∷ p .small ∷ p .bigs ∷ p .blocks ∷ []
+
+-- the length of block k
+unfoldable pub len : ℕ → ℕ → ℕ → ℕ → Option ℕ
+len l e b k = block-length (blocks-of (record { e = e; b = b }) l) l e (sbn k)
+
+-- P1 to P11, and a length of 2^64 - 1
+pub record Table : Type 0 where
+  pub p1 : parts 0 4 2 ≡ 0 ∷ 0 ∷ 0 ∷ 0 ∷ []
+  pub p2 : parts 10 3 2 ≡ 2 ∷ 2 ∷ 0 ∷ 2 ∷ []
+  pub p3 : parts 10 2 2 ≡ 2 ∷ 1 ∷ 2 ∷ 3 ∷ []
+  pub p3-0 : len 10 2 2 0 ≡ some 4
+  pub p3-1 : len 10 2 2 1 ≡ some 4
+  pub p3-2 : len 10 2 2 2 ≡ some 2
+  pub p3-3 : len 10 2 2 3 ≡ none
+  pub p4 : parts 1 1400 64 ≡ 1 ∷ 1 ∷ 0 ∷ 1 ∷ []
+  pub p4-0 : len 1 1400 64 0 ≡ some 1
+  pub p5 : next-toi 16 (65_535 ∷ []) 65_535 ≡ 1
+  pub p6 : next-toi 64 ((2 ^ 64 - 1) ∷ []) (2 ^ 64 - 1) ≡ 1
+  pub p7 : first-toi 16 65_536 ≡ 1
+  pub p8 : runs-out 31_000_000_000 26_000_000_000 ≡ false
+  pub p8′ : runs-out 31_000_000_000 26_000_000_001 ≡ true
+  pub p9 : runs-out 30_000_000_000 29_000_000_000 ≡ false
+  pub p9′ : runs-out 30_000_000_000 29_000_000_001 ≡ true
+  pub p10 : runs-out 10_000_000_000 10_000_000_000 ≡ true
+  pub p10′ : runs-out 10_000_000_000 9_999_999_999 ≡ false
+  pub p11 : tick-of 1_000_000_000 3 1 ≡ 333_333_333
+  pub wide : len (2 ^ 64 - 1) 2 (2 ^ 63) 0 ≡ none
+
+-- ---- the packets of one transfer
+
+-- block, symbol, block's symbol count, start, length, close
+abbrev pub Line : Type 0
+Line = List ℕ
+
+unfoldable pub line-of : Symbol → Line
+line-of y = y .block .0 ∷ y .symbol .0 ∷ y .symbols ∷ y .payload .start ∷ y .payload .size ∷ one-if (y .close) ∷ []
+
+-- at most so many packets
+unfoldable pub drained-lines : ℕ → ℕ → Part → Sizes → Encoder → List Line
+drained-lines zero w c z x = []
+drained-lines (suc k) w c z x =
+    let r = read w c z false x in
+    maybe [] (λ y. line-of y ∷ drained-lines k w c z (r .1)) (r .0)
+
+-- the packets of l bytes at the store's start, in symbols of e, blocks of b and a window of w, sent once
+unfoldable pub drain : ℕ → ℕ → ℕ → ℕ → List Line
+drain l e b w = drained-lines 20 w (record { start = 0; size = l }) (record { e = e; b = b }) (fresh true)
+
+pub record Drains : Type 0 where
+  pub two-open : drain 10 2 2 2 ≡
+      (0 ∷ 0 ∷ 2 ∷ 0 ∷ 2 ∷ 0 ∷ []) ∷ (1 ∷ 0 ∷ 2 ∷ 4 ∷ 2 ∷ 0 ∷ []) ∷ (0 ∷ 1 ∷ 2 ∷ 2 ∷ 2 ∷ 0 ∷ []) ∷ (1 ∷ 1 ∷ 2 ∷ 6 ∷ 2 ∷ 0 ∷ [])
+      ∷ (2 ∷ 0 ∷ 1 ∷ 8 ∷ 2 ∷ 1 ∷ []) ∷ []
+  pub three-open : drain 10 2 2 3 ≡
+      (0 ∷ 0 ∷ 2 ∷ 0 ∷ 2 ∷ 0 ∷ []) ∷ (1 ∷ 0 ∷ 2 ∷ 4 ∷ 2 ∷ 0 ∷ []) ∷ (2 ∷ 0 ∷ 1 ∷ 8 ∷ 2 ∷ 0 ∷ []) ∷ (0 ∷ 1 ∷ 2 ∷ 2 ∷ 2 ∷ 0 ∷ [])
+      ∷ (1 ∷ 1 ∷ 2 ∷ 6 ∷ 2 ∷ 1 ∷ []) ∷ []
+  pub empty-object : drain 0 4 2 2 ≡ (0 ∷ 0 ∷ 0 ∷ 0 ∷ 0 ∷ 1 ∷ []) ∷ []
+
+-- ---- runs of the whole desk
+
+abbrev pub setup : Setup
+setup = record {
+  priorities = 7 ∷ 3 ∷ [];
+  window = 2;
+  sizes = record { e = 2; b = 2 };
+  object-store = 100;
+  fdt-store = 100;
+  width = 16;
+  first = 65_534;
+  first-id = 0xFFFFF;
+  carousel = Carousel.delay 1000;
+  validity = 10_000_000_000;
+}
+
+-- n bytes from a place on
+abbrev pub bytes : ℕ → ℕ → Part
+bytes at n = record { start = at; size = n }
+
+-- an object of priority p: the part, how often it is sent, its carousel and its target
+abbrev pub object-with : ℕ → ℕ → ℕ → ℕ → Option Carousel → Target → Request
+object-with p at n m r t = record {
+  priority = p;
+  part = bytes at n;
+  own = none;
+  plan = record { most = m; carousel = r; target = t; stop-at-once = false };
+  named-start = none;
+}
+
+abbrev pub object : ℕ → ℕ → ℕ → ℕ → Request
+object p at n m = object-with p at n m none Target.at-once
+
+-- a packet in numbers, after whether a draft was taken: 4 taken id+1 toi block symbol start length close; no packet is 5 taken
+abbrev pub packet-shown : Bool → Option Packet → List ℕ
+packet-shown b none = 5 ∷ one-if b ∷ []
+packet-shown b (some k) =
+    4 ∷ one-if b ∷ maybe 0 suc (k .id) ∷ k .toi ∷ k .symbol .block .0 ∷ k .symbol .symbol .0 ∷ k .symbol .payload .start ∷ k .symbol .payload .size ∷ one-if (k .symbol .close) ∷ []
+
+-- an answer in numbers: refused n is 0 n; a number 1 t; yes or no 2 b; a total 3 n; done 9
+abbrev pub show : Answer → List ℕ
+show (Answer.refused n) = 0 ∷ n ∷ []
+show (Answer.number t) = 1 ∷ t ∷ []
+show Answer.done = 9 ∷ []
+show (Answer.truth b) = 2 ∷ one-if b ∷ []
+show (Answer.transferred none) = 3 ∷ []
+show (Answer.transferred (some n)) = 3 ∷ n ∷ []
+show (Answer.fdt-output b k) = packet-shown b k
+show (Answer.output k) = packet-shown false k
+
+-- each call with its answer, from set-up on
+abbrev pub Script : Type 0
+Script = List (Call × List ℕ)
+
+unfoldable pub Plays : Script → Type 0
+Plays l = map show (run setup (opening setup) (map (λ r. r .0) l) .0) ≡ map (λ r. r .1) l
+
+-- reserve, add by name, add anew; nothing before publish; the object is taken while the FDT is queued, and sent after it
+unfoldable pub first-run : Script
+first-run =
+    (Call.reserve, 1 ∷ 65_534 ∷ [])
+    ∷ (Call.add (some 65_534) (object 7 10 4 1), 1 ∷ 65_534 ∷ [])
+    ∷ (Call.add none (object 3 20 2 2), 1 ∷ 65_535 ∷ [])
+    ∷ (Call.add none (object 3 21 2 2), 0 ∷ 5 ∷ [])
+    ∷ (Call.add (some 5) (object 3 30 2 2), 0 ∷ 6 ∷ [])
+    ∷ (Call.add none (object 4 30 2 2), 0 ∷ 2 ∷ [])
+    ∷ (Call.run-file 100 0, 5 ∷ 0 ∷ [])
+    ∷ (Call.publish 100 (bytes 0 2), 9 ∷ [])
+    ∷ (Call.run-file 100 0, 5 ∷ 0 ∷ [])
+    ∷ (Call.run-fdt 100 none, 4 ∷ 0 ∷ 0x100000 ∷ 0 ∷ 0 ∷ 0 ∷ 0 ∷ 2 ∷ 0 ∷ [])
+    ∷ (Call.run-file 100 0, 4 ∷ 0 ∷ 0 ∷ 65_534 ∷ 0 ∷ 0 ∷ 10 ∷ 2 ∷ 0 ∷ [])
+    ∷ (Call.remove 65_534, 2 ∷ 1 ∷ [])
+    ∷ (Call.run-file 100 0, 4 ∷ 0 ∷ 0 ∷ 65_534 ∷ 0 ∷ 1 ∷ 12 ∷ 2 ∷ 1 ∷ [])
+    ∷ (Call.run-file 100 0, 5 ∷ 0 ∷ [])
+    ∷ (Call.listed 65_535, 2 ∷ 1 ∷ [])
+    ∷ (Call.run-file 100 1, 4 ∷ 0 ∷ 0 ∷ 65_535 ∷ 0 ∷ 0 ∷ 20 ∷ 2 ∷ 0 ∷ [])
+    ∷ (Call.run-file 100 1, 4 ∷ 0 ∷ 0 ∷ 65_535 ∷ 0 ∷ 0 ∷ 20 ∷ 2 ∷ 1 ∷ [])
+    ∷ (Call.transfers 65_535, 3 ∷ 1 ∷ [])
+    ∷ (Call.run-file 100 1, 5 ∷ 0 ∷ [])
+    ∷ (Call.transfers 65_535, 3 ∷ [])
+    ∷ (Call.run-fdt 200 none, 5 ∷ 0 ∷ [])
+    ∷ (Call.reserve, 1 ∷ 1 ∷ [])
+    ∷ (Call.run-file 100 2, 0 ∷ 8 ∷ [])
+    ∷ []
+
+-- five objects, marked by one publish; the draft beside it is not taken. The second leaves the queue's middle; the first repeats after more than 1000, and once more by a trigger.
+-- The fourth is paced by 500; the first is removed while it is sent. A sixth, empty, is marked by a draft that is taken once the validity has run out
+unfoldable pub long-run : Script
+long-run =
+    (Call.add none (object-with 7 0 2 1 (some (Carousel.delay 1000)) Target.at-once), 1 ∷ 65_534 ∷ [])
+    ∷ (Call.add none (object 7 10 2 1), 1 ∷ 65_535 ∷ [])
+    ∷ (Call.add none (object 7 20 2 1), 1 ∷ 1 ∷ [])
+    ∷ (Call.add none (object-with 3 30 4 2 none (Target.for 1000)), 1 ∷ 2 ∷ [])
+    ∷ (Call.add none (object 7 50 2 1), 1 ∷ 3 ∷ [])
+    ∷ (Call.run-file 100 0, 5 ∷ 0 ∷ [])
+    ∷ (Call.publish 100 (bytes 0 2), 9 ∷ [])
+    ∷ (Call.run-fdt 100 (some (bytes 10 2)), 4 ∷ 0 ∷ 0x100000 ∷ 0 ∷ 0 ∷ 0 ∷ 0 ∷ 2 ∷ 0 ∷ [])
+    ∷ (Call.remove 65_535, 2 ∷ 1 ∷ [])
+    ∷ (Call.run-file 100 0, 4 ∷ 0 ∷ 0 ∷ 65_534 ∷ 0 ∷ 0 ∷ 0 ∷ 2 ∷ 0 ∷ [])
+    ∷ (Call.run-file 200 0, 4 ∷ 0 ∷ 0 ∷ 1 ∷ 0 ∷ 0 ∷ 20 ∷ 2 ∷ 1 ∷ [])
+    ∷ (Call.run-file 300 0, 4 ∷ 0 ∷ 0 ∷ 3 ∷ 0 ∷ 0 ∷ 50 ∷ 2 ∷ 1 ∷ [])
+    ∷ (Call.transfers 65_534, 3 ∷ 1 ∷ [])
+    ∷ (Call.run-file 1200 0, 5 ∷ 0 ∷ [])
+    ∷ (Call.run-file 1201 0, 4 ∷ 0 ∷ 0 ∷ 65_534 ∷ 0 ∷ 0 ∷ 0 ∷ 2 ∷ 0 ∷ [])
+    ∷ (Call.run-file 1202 0, 5 ∷ 0 ∷ [])
+    ∷ (Call.transfers 65_534, 3 ∷ 2 ∷ [])
+    ∷ (Call.trigger 65_534 none, 2 ∷ 1 ∷ [])
+    ∷ (Call.run-file 1203 0, 4 ∷ 0 ∷ 0 ∷ 65_534 ∷ 0 ∷ 0 ∷ 0 ∷ 2 ∷ 0 ∷ [])
+    ∷ (Call.run-file 2000 1, 4 ∷ 0 ∷ 0 ∷ 2 ∷ 0 ∷ 0 ∷ 30 ∷ 2 ∷ 0 ∷ [])
+    ∷ (Call.run-file 2499 1, 5 ∷ 0 ∷ [])
+    ∷ (Call.run-file 2500 1, 4 ∷ 0 ∷ 0 ∷ 2 ∷ 0 ∷ 1 ∷ 32 ∷ 2 ∷ 0 ∷ [])
+    ∷ (Call.run-file 3000 1, 4 ∷ 0 ∷ 0 ∷ 2 ∷ 0 ∷ 0 ∷ 30 ∷ 2 ∷ 0 ∷ [])
+    ∷ (Call.remove 65_534, 2 ∷ 1 ∷ [])
+    ∷ (Call.add none (object 7 40 0 1), 1 ∷ 4 ∷ [])
+    ∷ (Call.run-file 3001 0, 5 ∷ 0 ∷ [])
+    ∷ (Call.run-fdt 10_000_000_099 (some (bytes 10 2)), 5 ∷ 0 ∷ [])
+    ∷ (Call.run-fdt 10_000_000_100 (some (bytes 10 2)), 4 ∷ 1 ∷ 1 ∷ 0 ∷ 0 ∷ 0 ∷ 10 ∷ 2 ∷ 0 ∷ [])
+    ∷ (Call.run-file 10_000_000_101 0, 4 ∷ 0 ∷ 0 ∷ 4 ∷ 0 ∷ 0 ∷ 40 ∷ 0 ∷ 1 ∷ [])
+    ∷ (Call.complete, 9 ∷ [])
+    ∷ (Call.add none (object 7 50 2 1), 0 ∷ 3 ∷ [])
+    ∷ []
