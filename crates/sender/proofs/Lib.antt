@@ -3,5 +3,6 @@ pub mod EncoderLaws
 pub mod EncoderCounts
 pub mod EncoderViews
 pub mod Offsets
-pub mod Closing
 pub mod EncoderReads
+pub mod EncoderPromises
+pub mod DrainLaws

@@ -61,7 +61,7 @@ module _ (c : Content) (s : Sound c) where
       unfolding is-empty
       left = leb-false (symbols-in (c .partition) (o .sbn)) (o .esi .0) some-left
 
-      rank-early : rank < symbols-of l e
+      pub rank-early : rank < symbols-of l e
       rank-early =
           let k = o .sbn .0 in
           let z : k + 1 + (c .partition .blocks - (k + 1)) ≡ c .partition .blocks = let b = i .block in omega arith in

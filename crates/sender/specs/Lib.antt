@@ -1,2 +1,4 @@
--- What the code's calls make of their records, and what they mean.
+-- What the code's calls make of their records, what they mean, and what is promised of them.
 pub mod EncoderCalls
+pub mod EncoderPromises
+pub mod DrainCalls

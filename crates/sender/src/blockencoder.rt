@@ -240,9 +240,6 @@ impl BlockEncoder {
         if (self.next.0 as u64) < p.blocks {
             return false;
         }
-        if !o.is_empty(p) {
-            return false;
-        }
         let mut window = self.window;
         window[at] = o;
         all_empty(p, window, self.filled)
