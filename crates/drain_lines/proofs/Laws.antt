@@ -2,25 +2,19 @@
 use mathlib.Core.Path.{_≡_, refl, sym, ap, _∙_}
 use mathlib.Core.List.{List, [], _∷_, _++_, append-assoc, append-nil}
 use mathlib.Core.Bool.{Bool, true, false, cond}
-use mathlib.Core.Logic.{_⊎_, inl, inr, ⊎-elim}
-use Prim.Native.Nat.{ℕ, zero, suc, _+_, _-_, _*_, _/_, _^_, _<_, _≤_}
+use mathlib.Core.Logic.{⊎-elim}
+use Prim.Native.Nat.{ℕ, zero, suc, _+_, _-_, _/_, _^_, _<_, _≤_}
 use native.Mathlib.Nat.{one-le-pow, pow-le-pow-right}
 use native.Mathlib.Numerals.{add-one}
 use native.Mathlib.Omega.{arith}
-use borrow.Author.Tests.{lt-ltb, le-ltb, ltb-true, ltb-false}
+use borrow.Author.Tests.{lt-ltb, le-ltb}
 use mir.Val.{boolByte}
-use lib.Dec.{ltb, lit≤}
+use lib.Dec.{lit≤}
 use lib.ListN.{length, take, set, length-set}
 use lib.Seq.{take-suc-set}
 use Rattle.io.specs.Digits.{Fewest}
+use Rattle.text.proofs.Lists.{lt-or-le}
 use Rattle.drain_lines.specs.Lines.{places, Appended}
-
-cases : (b : Bool) → (b ≡ true) ⊎ (b ≡ false)
-cases true = inl refl
-cases false = inr refl
-
-lt-or-le : (k i : ℕ) → (k < i) ⊎ (i ≤ k)
-lt-or-le k i = ⊎-elim (λ (t : ltb k i ≡ true). inl (ltb-true k i t)) (λ (t : ltb k i ≡ false). inr (ltb-false k i t)) (cases (ltb k i))
 
 -- a 64-bit number has at most 20 digits
 pub few : (n k : ℕ) → n < 2 ^ 64 → Fewest 10 1 n k → k ≤ 20
@@ -28,7 +22,6 @@ few n k h w =
     ⊎-elim (λ (m : 20 < k). let l : 20 ≤ k - 1 = omega arith in let p : 10 ^ 20 ≤ 10 ^ (k - 1) = pow-le-pow-right (lit≤ tt) l in let q = w .2 (omega arith) in absurd (omega arith))
     (λ (m : k ≤ 20). m) (lt-or-le 20 k)
 
--- the fewest digits are as many as `places` counts
 lowest : (n k : ℕ) → Fewest 10 1 n (suc (suc k)) → 10 ^ suc k ≤ n
 lowest n k w = let e : suc (suc k) - 1 ≡ suc k = omega arith in rw e at (w .2 (omega arith))
 
@@ -37,6 +30,7 @@ one-less n k w =
     let q = lowest n k w in
     let e : suc k - 1 ≡ k = omega arith in (omega arith, omega arith, λ m. rw e (omega arith))
 
+-- the fewest digits are as many as `places` counts
 pub counted : (f n k : ℕ) → n ≤ f → Fewest 10 1 n k → places f n ≡ k
 unfolding places
 counted zero n zero h w = absurd (omega arith)

@@ -9,7 +9,7 @@ use Rattle.io.specs.Digits.{digits}
 use Rattle.sender.specs.declared.drain.Line.{Line}
 use Rattle.sender.specs.declared.drain.Line.the-variants.{Packet, Over}
 
--- how many digits n has; so many steps at most
+-- how many digits n has, counted in at most k steps; n steps are enough
 unfoldable pub places : ℕ → ℕ → ℕ
 places zero n = 1
 places (suc k) n = cond (ltb n 10) 1 (suc (places k (n / 10)))

@@ -11,7 +11,7 @@ use sender::blockencoder::BlockEncoder;
 use sender::drain::Line;
 use text::Field;
 
-// How long a line may be that is read. A longer one may be a piece that filled the reading buffer, so it is refused.
+// The longest line that is read. One that fills the reading buffer may be cut there, so it is refused.
 const LONGEST: usize = 65535;
 
 // Writes the answer to one line.
@@ -88,7 +88,7 @@ fn is_over(line: Line) -> bool {
     if let Line::Over = line { true } else { false }
 }
 
-// Of a line: six numbers of at most 20 digits, each with a byte behind it.
+// How long a line's text can be: six numbers of at most 20 digits, each with a byte behind it.
 const MOST_LINE: usize = 126;
 
 // Writes the first `used` bytes of out if another line may not fit behind them, and answers how many are still in use.
