@@ -1,4 +1,4 @@
--- Laws of the encoder: what its functions keep, and that they are the definition's.
+-- Laws of the encoder, the sessions and the sender: what their functions keep, and that they are the definition's.
 pub mod EncoderLaws
 pub mod EncoderCounts
 pub mod EncoderViews
@@ -6,3 +6,26 @@ pub mod Offsets
 pub mod EncoderReads
 pub mod EncoderPromises
 pub mod DrainLaws
+pub mod SessionFacts
+pub mod SessionLaws
+pub mod SessionRounds
+pub mod SessionTakes
+pub mod SessionViews
+pub mod FdtSessionLaws
+pub mod FdtSessionFacts
+pub mod FdtSessionViews
+pub mod DeskCounts
+pub mod DeskNumbers
+pub mod DeskListed
+pub mod DeskChanges
+pub mod DeskByNumber
+pub mod DeskPublish
+pub mod DeskLists
+pub mod DeskRefusals
+pub mod DeskAdds
+pub mod DeskRuns
+pub mod DeskFdtRuns
+pub mod PayloadLaws
+pub mod SetupCallsLaws
+pub mod SenderKept
+pub mod SenderRuns

@@ -2,3 +2,9 @@
 pub mod EncoderCalls
 pub mod EncoderPromises
 pub mod DrainCalls
+pub mod SessionCalls
+pub mod FdtSessionCalls
+pub mod SessionMeans
+pub mod SenderCalls
+pub mod SetupCalls
+pub mod SenderRuns

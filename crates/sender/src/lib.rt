@@ -1,4 +1,9 @@
-// The top layer: the encoder, and one transfer line by line.
+// The top layer: the encoder, the sessions, and every call from outside.
 pub mod block;
 pub mod blockencoder;
 pub mod drain;
+pub mod fdtsession;
+pub mod payload;
+pub mod sender;
+pub mod sendersession;
+pub mod setup;

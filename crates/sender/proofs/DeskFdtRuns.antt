@@ -1,0 +1,347 @@
+-- A run of the FDT session under the sender: what is in hand is what is being transferred, and a draft that is taken marks every listed object; its refusals.
+use mathlib.Core.Path.{_≡_, refl, sym, _∙_, ap, subst}
+use mathlib.Core.Bool.{Bool, true, false, _&&_, _||_}
+use mathlib.Core.Option.{Option, none, some}
+use mathlib.Core.List.{[], _∷_}
+use Prim.Native.Nat.{ℕ}
+use native.Mathlib.Omega.{arith}
+use lib.Dec.{eqb}
+use lib.ListN.{getD}
+use borrow.Author.Tests.{eqb-false}
+use Rattle.sizes.specs.Words.{if_then_else_, maybe, given, collect, first-of}
+use Rattle.lifecycle.specs.Lifecycle as Life
+use Rattle.lifecycle.specs.Setup.{Setup, bad-blocks}
+use Rattle.lifecycle.specs.Fdt.{bad-fdt-part}
+use Rattle.lifecycle.specs.FileDesc.{plan-of, life-of, started-life, done-life}
+use Rattle.lifecycle.specs.Announce as Ann
+use Rattle.lifecycle.specs.Announce.{state-of, draft-of, FdtValid, needs-new-of, queued-of, republished-of, front-of, start-of, transferring-of, next-of, bad-fdt-of}
+use Rattle.lifecycle.specs.FdtCalls.{with-slots, announced, with-announcer, real-draft, draft-test-of, next-fdt-of, fdt-done-of}
+use Rattle.lifecycle.specs.FdtCalls.{Valid as ListValid}
+use Rattle.lifecycle.specs.declared.parts.Part.{Part}
+use Rattle.lifecycle.specs.declared.filedesc.Rule.{Rule}
+use Rattle.lifecycle.specs.declared.announce.Instance.{Instance}
+use Rattle.lifecycle.specs.declared.announce.Announcer.{Announcer}
+use Rattle.lifecycle.specs.declared.announce.NextFdt.{NextFdt}
+use Rattle.lifecycle.specs.declared.announce.Draft.{Draft}
+use Rattle.lifecycle.specs.declared.announce.Draft.the-variants.{Given, Missing}
+use Rattle.lifecycle.specs.declared.fdt.Fdt.{Fdt}
+use Rattle.lifecycle.specs.declared.fdt.Settings.{Settings}
+use Rattle.lifecycle.proofs.FdtFacts.{if-on, maybe-on}
+use Rattle.lifecycle.proofs.FdtSent.{same-counts}
+use Rattle.lifecycle.proofs.AnnounceLaws.{valid-republished, bad-said}
+use Rattle.lifecycle.proofs.PublishLaws.{valid-next-fdt, valid-fdt-done}
+use Rattle.definition.specs.FdtSession.{FdtTurn, fdt-run}
+use Rattle.definition.specs.Desk as Def
+use Rattle.sender.specs.EncoderCalls.{read-of}
+use Rattle.sender.specs.SessionCalls.{idle-of, Holds}
+use Rattle.sender.specs.FdtSessionCalls.{FdtHolds, FdtTries, left-of, fdt-begun-of, fdt-sent-by, fdt-sent-of, fdt-attempted-of, fdt-again-by, fdt-ran-of}
+use Rattle.sender.specs.SessionMeans.{Stands, FdtStands, SetFor, fdt-of, fdt-packet-said, SameObjects, marked-slots, FdtTurns}
+use Rattle.sender.specs.SenderCalls.{working, slot-in, desk-of, Agrees, Valid, Kept, fdt-answer, answer-of, fdt-running-by, fdt-running-of}
+use Rattle.sender.specs.declared.blockencoder.Emitted.{Emitted}
+use Rattle.sender.specs.declared.blockencoder.Emitted.the-variants as EmittedV
+use Rattle.sender.specs.declared.sendersession.SenderSession.{SenderSession}
+use Rattle.sender.specs.declared.sendersession.Served.{Served}
+use Rattle.sender.specs.declared.sendersession.Served.the-variants.{Idle, Sent, Over}
+use Rattle.sender.specs.declared.fdtsession.FdtSession.{FdtSession}
+use Rattle.sender.specs.declared.fdtsession.FdtRan.{FdtRan}
+use Rattle.sender.specs.declared.sender.Sender.{Sender}
+use Rattle.sender.specs.declared.sender.RunAnswer.the-variants as RunV
+use Rattle.sender.proofs.SessionLaws.{holds-next-fdt, holds-fdt-done}
+use Rattle.sender.proofs.FdtSessionLaws.{draft-looked}
+use Rattle.sender.proofs.FdtSessionFacts.{stands-tries, next-starts, next-announcer}
+use Rattle.sender.proofs.FdtSessionViews.{fdt-ran-means}
+use Rattle.sender.proofs.DeskChanges.{Stays, stands-list, agrees-list}
+use Rattle.sender.proofs.DeskPublish.{announced-desk, announced-stays}
+
+-- ---- what every step of a run keeps, the run keeps
+
+-- P is said of the list, and of whether an FDT is in hand
+module _ (w now : ℕ) (draft : Draft) (P : Fdt → Bool → Type 0)
+    (next : (d : Draft) (f : Fdt) → P f false → P (next-fdt-of now d f .fdt) (next-fdt-of now d f .starts))
+    (done : (f : Fdt) → P f true → P (fdt-done-of now f) false) where
+  abbrev After : FdtRan → Type 0
+  After r = P (r .fdt) (r .session .busy)
+
+  sent-on : (taken : Bool) (f : Fdt) (x : FdtSession) → P f (x .busy) → After (fdt-sent-of now taken f x)
+  unfolding fdt-sent-of
+  sent-on taken f x p = if-on After (x .busy) (λ e. by e (read-of false (x .encoder) .answer)) (λ e. p)
+    where
+      by : x .busy ≡ true → (a : Emitted) → After (fdt-sent-by now taken f x (read-of false (x .encoder) .encoder) a)
+      by e EmittedV.Nothing = done f (subst (P f) e p)
+      by e (EmittedV.One s) = p
+
+  -- what starts is in hand
+  attempted-on : (taken : Bool) (f : Fdt) (x : FdtSession) → P f (x .busy) → After (fdt-attempted-of w now draft taken f x)
+  unfolding fdt-attempted-of fdt-begun-of
+  attempted-on taken f x p = if-on After (x .busy) (λ e. sent-on taken f x p) (λ e.
+      let n = next-fdt-of now (left-of draft taken) f in
+      let i = n .fdt .announcer .current in
+      let q = next (left-of draft taken) f (subst (P f) e p) in
+      sent-on (taken || n .taken) (n .fdt) (if n .starts then fdt-begun-of w (i .id) (i .part) (f .settings .sizes) else x)
+      (if-on (λ (y : FdtSession). P (n .fdt) (y .busy)) (n .starts) (λ b. subst (P (n .fdt)) b q) (λ b. subst (P (n .fdt)) (b ∙ sym e) q)))
+
+  ran-on : (f : Fdt) (x : FdtSession) → P f (x .busy) → After (fdt-ran-of w now draft f x)
+  unfolding fdt-ran-of
+  ran-on f x p = let a = fdt-attempted-of w now draft false f x in again a (attempted-on false f x p) (a .answer)
+    where
+      again : (a : FdtRan) → After a → (s : Served) → After (fdt-again-by w now draft a s)
+      again a q Over = attempted-on (a .taken) (a .fdt) (a .session) q
+      again a q Idle = q
+      again a q (Sent s) = q
+
+-- every held object is good
+ran-holds : (w now : ℕ) (draft : Draft) (f : Fdt) (x : FdtSession) → Holds f → Holds (fdt-ran-of w now draft f x .fdt)
+ran-holds w now draft = ran-on w now draft (λ f b. Holds f) (λ d f h. holds-next-fdt f h now d) (λ f h. holds-fdt-done f h now)
+
+-- ---- the current FDT is being transferred exactly while one is in hand
+
+-- is the current one being transferred
+abbrev sending : Announcer → Bool
+sending a = a .current .life .transferring
+
+module _ (a : Announcer) (v : FdtValid a) where
+  -- none that waits is
+  front-sending : sending a ≡ false → sending (front-of a) ≡ false
+  unfolding front-of
+  front-sending e = if-on (λ (b : Announcer). sending b ≡ false) (eqb (a .waiting) 0) (λ z. e) (λ z. v .idle 0 (let n = eqb-false (a .waiting) 0 z in omega (arith, n)))
+
+  done-sending : (now : ℕ) → sending (Ann.done-of now a) ≡ false
+  unfolding Ann.done-of done-life
+  done-sending now = if-on (λ (b : Announcer). sending b ≡ false) (a .«has_current») (λ e. refl) (λ e. ap (λ (i : Instance). i .life .transferring) (v .blank e))
+
+republished-sending : (validity now : ℕ) (draft : Draft) (a : Announcer) → sending (republished-of validity now draft a) ≡ sending a
+unfolding republished-of queued-of
+republished-sending validity now draft a =
+    if-on (λ (b : Announcer). sending b ≡ sending a) (needs-new-of validity now a) (λ e. maybe-on (λ (b : Announcer). sending b ≡ sending a) (draft-of draft) (λ q. refl) (λ c q. refl)) (λ e. refl)
+
+-- after the question for the next one, the current one is being transferred exactly where it starts
+abbrev Starts : NextFdt → Type 0
+Starts n = sending (n .announcer) ≡ n .starts
+
+start-sending : (r : Rule) (now : ℕ) (taken : Bool) (a : Announcer) → sending a ≡ false → Starts (start-of r now taken a)
+unfolding start-of started-life
+start-sending r now taken a e = if-on Starts (a .«has_current» && Life.may-start (plan-of r) now (life-of (a .current .life))) (λ c. refl) (λ c. e)
+
+next-sending : (r : Rule) (validity now : ℕ) (draft : Draft) (a : Announcer) → FdtValid a → sending a ≡ false → Starts (next-of r validity now draft a)
+unfolding next-of
+next-sending r validity now draft a v e = if-on Starts (transferring-of a) (λ q. e) (λ q.
+    let b = republished-of validity now draft a in
+    start-sending r now (needs-new-of validity now a && given (draft-of draft)) (front-of b)
+    (front-sending b (valid-republished a v validity now draft) (republished-sending validity now draft a ∙ e)))
+
+-- the same of the list
+module _ (now : ℕ) (f : Fdt) (v : ListValid f) where
+  list-next : (draft : Draft) → sending (f .announcer) ≡ false → sending (next-fdt-of now draft f .fdt .announcer) ≡ next-fdt-of now draft f .starts
+  list-next draft e =
+      ap sending (next-announcer now draft f)
+      ∙ next-sending (Ann.fdt-rule (f .settings .«from_start») (f .settings .interval)) (f .settings .validity) now draft (f .announcer) (v .fdts) e
+      ∙ sym (next-starts now draft f)
+
+  list-done : sending (fdt-done-of now f .announcer) ≡ false
+  unfolding fdt-done-of
+  list-done = done-sending (f .announcer) (v .fdts) now
+
+-- so it is before and after each step of a run
+record Matched (f : Fdt) (busy : Bool) : Type 0 where
+  valid : ListValid f
+  matched : sending (f .announcer) ≡ busy
+
+pub ran-matched : (w now : ℕ) (draft : Draft) (f : Fdt) (x : FdtSession) → ListValid f → f .announcer .current .life .transferring ≡ x .busy
+    → fdt-ran-of w now draft f x .fdt .announcer .current .life .transferring ≡ fdt-ran-of w now draft f x .session .busy
+ran-matched w now draft f x v e = ran-on w now draft Matched
+    (λ d f m. record { valid = valid-next-fdt now d f (m .valid); matched = list-next now f (m .valid) d (m .matched) })
+    (λ f m. record { valid = valid-fdt-done now f (m .valid); matched = list-done now f (m .valid) })
+    f x (record { valid = v; matched = e }) .matched
+
+-- ---- the sender with another FDT side
+
+-- the list, after a draft was taken or not
+abbrev sided : Fdt → Bool → Announcer → Fdt
+sided f taken a = if taken then announced f a else with-announcer f a
+
+-- the sender with another list, and another FDT session
+abbrev onward : Sender → Fdt → FdtSession → Sender
+onward s f y = record { fdt = f; window = s .window; count = s .count; sessions = s .sessions; «fdt_session» = y }
+
+module _ (s : Sender) (v : Valid s) (f : Fdt) (y : FdtSession) (taken : Bool) (slots : f .slots ≡ marked-slots taken (s .fdt .slots)) (same : SameObjects (s .fdt) f) where
+  is-sided : (a : Announcer) → with-announcer f a ≡ sided (s .fdt) taken a
+  is-sided a = (λ i. record {
+    settings = same .settings i;
+    complete = same .complete i;
+    tois = same .tois i;
+    slots = slots i;
+    queue = same .queue i;
+    queued = same .queued i;
+    announcer = a;
+  }) ∙ by taken
+    where
+      by : (b : Bool) → with-announcer (with-slots (s .fdt) (marked-slots b (s .fdt .slots))) a ≡ sided (s .fdt) b a
+      by true = refl
+      by false = refl
+
+  -- the FDT side is new, and a draft that was taken marks every listed object
+  onward-desk : desk-of (onward s f y) ≡ (if taken then Def.all-published (Def.with-fdt (desk-of s) (fdt-of f y)) else Def.with-fdt (desk-of s) (fdt-of f y))
+  unfolding desk-of Def.with-fdt
+  onward-desk = ap (λ g. desk-of (onward s g y)) (is-sided (f .announcer)) ∙ by taken
+    where
+      by : (b : Bool) → desk-of (onward s (sided (s .fdt) b (f .announcer)) y)
+          ≡ (if b then Def.all-published (Def.with-fdt (desk-of s) (fdt-of f y)) else Def.with-fdt (desk-of s) (fdt-of f y))
+      by true = announced-desk s v (f .announcer) y
+      by false = refl
+
+  -- all but the FDT side stays
+  onward-stays : Stays (s .fdt) (with-announcer f (s .fdt .announcer))
+  onward-stays = subst (Stays (s .fdt)) (sym (is-sided (s .fdt .announcer))) (if-on (Stays (s .fdt)) taken (λ e. announced-stays (s .fdt) (s .fdt .announcer) refl)
+      (λ e. record { settings = refl; sent-same = λ j. refl; part = λ j k. refl; sizes = λ j k. refl; current = refl }))
+
+  onward-stands : (x : SenderSession) → Stands (s .fdt) (s .window) x → Stands f (s .window) x
+  onward-stands x h =
+      let k = stands-list (s .fdt) (with-announcer f (s .fdt .announcer)) (s .window) x onward-stays h in
+      record {
+        busy = λ b. (let n = k .busy b in record { slot = n .slot; sent = n .sent; encoder = n .encoder; part = n .part; sizes = n .sizes; width = n .width });
+        idle = k .idle;
+      }
+
+  onward-valid : Holds f → FdtHolds f → FdtStands f (s .window) y → f .announcer .current .life .transferring ≡ y .busy → Valid (onward s f y)
+  onward-valid h g st m = record {
+    holds = h;
+    fdt-holds = g;
+    object-store = rw (same .settings) (v .object-store);
+    fdt-store = rw (same .settings) (v .fdt-store);
+    narrow = v .narrow;
+    few = v .few;
+    long = v .long;
+    sessions = λ i k. onward-stands (getD (s .sessions) i (idle-of 0)) (v .sessions i k);
+    spare = v .spare;
+    in-hand = same-counts (s .fdt) f (onward-stays .sent-same) (collect slot-in (working s)) (v .in-hand);
+    fdt-busy = st .busy;
+    fdt-idle = st .idle;
+    matched = m;
+  }
+
+  onward-agrees : (u : Setup) → Agrees u s → Agrees u (onward s f y)
+  onward-agrees u a = let b = agrees-list u s f (same .settings) (ap (λ t. t .width) (same .tois)) a in record {
+    window = b .window;
+    sizes = b .sizes;
+    object-store = b .object-store;
+    fdt-store = b .fdt-store;
+    width = b .width;
+    carousel = b .carousel;
+    validity = b .validity;
+  }
+
+-- ---- the draft
+
+-- a draft of length 0 is none on both sides
+draft-view : (draft : Draft) → Def.draft-of (draft-of draft) ≡ draft-of (real-draft draft)
+unfolding Def.draft-of real-draft
+draft-view Missing = refl
+draft-view (Given c) = by (eqb (c .size) 0)
+  where
+    by : (b : Bool) → (if b then none else some c) ≡ draft-of (if b then Missing else Given c)
+    by true = refl
+    by false = refl
+
+-- it is refused for the same
+refusal-view : (u : Setup) (s : Sender) → Agrees u s → (draft : Draft) → Def.draft-refusal u (desk-of s .fdt) (draft-of draft) ≡ draft-test-of (real-draft draft) (s .fdt)
+unfolding Def.draft-refusal draft-test-of desk-of
+refusal-view u s g draft = ap (maybe none said) (draft-view draft) ∙ by (real-draft draft)
+  where
+    said : Part → Option ℕ
+    said c = first-of ((4, bad-blocks (u .sizes) (c .size)) ∷ (5, bad-fdt-part u (state-of (s .fdt .announcer)) c) ∷ [])
+
+    by : (d : Draft) → maybe none said (draft-of d) ≡ draft-test-of d (s .fdt)
+    by Missing = refl
+    by (Given c) = λ i. first-of ((4, bad-blocks (g .sizes i) (c .size)) ∷ (5, sym (bad-said c u (s .fdt .settings .«fdt_store») (s .fdt .announcer) (g .fdt-store)) i) ∷ [])
+
+-- the answer says the refusal
+abbrev Told : Option ℕ → Type 0
+Told none = Unit {0}
+Told (some n) = Def.Answer.refused n ≡ fdt-answer false (if eqb n 4 then RunV.Sizes else RunV.Part)
+
+test-told : (d : Draft) (f : Fdt) → Told (draft-test-of d f)
+unfolding draft-test-of
+test-told Missing f = tt
+test-told (Given c) f = by (bad-blocks (f .settings .sizes) (c .size)) (bad-fdt-of (f .settings .«fdt_store») c (f .announcer))
+  where
+    by : (a b : Bool) → Told (first-of ((4, a) ∷ (5, b) ∷ []))
+    by true b = refl
+    by false true = refl
+    by false false = tt
+
+-- ---- the call
+
+-- a set-up with the settings of the list
+abbrev set-up-of : ℕ → Settings → Setup
+set-up-of w z = record {
+  priorities = [];
+  window = w;
+  sizes = z .sizes;
+  object-store = z .«object_store»;
+  fdt-store = z .«fdt_store»;
+  width = 0;
+  first = 0;
+  first-id = 0;
+  carousel = if z .«from_start» then Life.Carousel.interval (z .interval) else Life.Carousel.delay (z .interval);
+  validity = z .validity;
+}
+
+-- the packet is said
+answer-view : (taken : Bool) (id : ℕ) (a : Served) → Def.Answer.fdt-output taken (fdt-packet-said id a) ≡ fdt-answer taken (answer-of true 0 id a)
+answer-view taken id Idle = refl
+answer-view taken id (Sent y) = refl
+answer-view taken id Over = refl
+
+-- what the FDT session has in hand between two calls
+valid-stands : (s : Sender) → Valid s → FdtStands (s .fdt) (s .window) (s .«fdt_session»)
+valid-stands s v = record { busy = v .fdt-busy; idle = v .fdt-idle }
+
+-- it may be run with a draft that passes the test
+pub tries-ready : (s : Sender) (draft : Draft) → Valid s → draft-test-of (real-draft draft) (s .fdt) ≡ none → FdtTries (s .fdt) (s .window) (real-draft draft) (s .«fdt_session»)
+tries-ready s draft v e =
+    stands-tries (s .fdt) (s .window) (real-draft draft) (s .«fdt_session») (v .fdt-holds) (v .narrow) (draft-looked (real-draft draft) (s .fdt) (v .fdt-store) e) (valid-stands s v)
+
+module _ (s : Sender) (now : ℕ) (draft : Draft) (v : Valid s) where
+  -- what comes of a run
+  abbrev runs : FdtRan
+  runs = fdt-ran-of (s .window) now (real-draft draft) (s .fdt) (s .«fdt_session»)
+
+  module _ (e : draft-test-of (real-draft draft) (s .fdt) ≡ none) where
+    runs-means : (u : Setup) → SetFor u (s .window) (s .fdt .settings) → FdtTurns (s .window) (s .fdt) (fdt-run u now (draft-of (real-draft draft)) (desk-of s .fdt)) runs
+    unfolding desk-of
+    runs-means u set = fdt-ran-means u (s .window) now (real-draft draft) (s .fdt) (s .«fdt_session») set (tries-ready s draft v e) (valid-stands s v)
+
+    run-done : Kept s (Def.Call.run-fdt now (draft-of draft)) (fdt-answer (runs .taken) (answer-of true 0 (runs .session .id) (runs .answer))) (onward s (runs .fdt) (runs .session))
+    unfolding Def.step Def.fdt-ran
+    run-done =
+        let t = runs-means (set-up-of (s .window) (s .fdt .settings)) (record { window = refl; sizes = refl; validity = refl; carousel = refl }) in
+        record {
+          means = λ u g. (
+              let m = runs-means u (record { window = g .window; sizes = g .sizes; validity = g .validity; carousel = g .carousel }) in
+              (λ i. Def.unless ((refusal-view u s g draft ∙ e) i) (desk-of s) (Def.fdt-ran u now (draft-view draft i) (desk-of s)))
+              ∙ ap (λ (r : FdtTurn). (Def.Answer.fdt-output (r .taken) (r .packet), if r .taken then Def.all-published (Def.with-fdt (desk-of s) (r .fdt)) else Def.with-fdt (desk-of s) (r .fdt))) (m .view)
+              ∙ (λ i. (answer-view (runs .taken) (runs .session .id) (runs .answer) i, sym (onward-desk s v (runs .fdt) (runs .session) (runs .taken) (t .slots) (t .same)) i)));
+          agrees = onward-agrees s v (runs .fdt) (runs .session) (runs .taken) (t .slots) (t .same);
+          valid = onward-valid s v (runs .fdt) (runs .session) (runs .taken) (t .slots) (t .same)
+              (ran-holds (s .window) now (real-draft draft) (s .fdt) (s .«fdt_session») (v .holds)) (t .holds) (t .stands)
+              (ran-matched (s .window) now (real-draft draft) (s .fdt) (s .«fdt_session») (v .holds .valid) (v .matched));
+        }
+
+  run-refused : (n : ℕ) → draft-test-of (real-draft draft) (s .fdt) ≡ some n → (a : Def.Answer) → Def.Answer.refused n ≡ a → Kept s (Def.Call.run-fdt now (draft-of draft)) a s
+  unfolding Def.step
+  run-refused n e a t = record {
+    means = λ u g. (λ i. Def.unless ((refusal-view u s g draft ∙ e) i) (desk-of s) (Def.fdt-ran u now (Def.draft-of (draft-of draft)) (desk-of s))) ∙ (λ i. (t i, desk-of s));
+    agrees = λ u g. g;
+    valid = v;
+  }
+
+-- refusals 4 and 5 in their order; else it is run
+pub run-fdt-kept : (s : Sender) (now : ℕ) (draft : Draft) → Valid s
+    → Kept s (Def.Call.run-fdt now (draft-of draft)) (fdt-answer (fdt-running-of now draft s .taken) (fdt-running-of now draft s .answer)) (fdt-running-of now draft s .sender)
+unfolding fdt-running-of
+run-fdt-kept s now draft v = by (draft-test-of (real-draft draft) (s .fdt)) refl (test-told (real-draft draft) (s .fdt))
+  where
+    by : (o : Option ℕ) → draft-test-of (real-draft draft) (s .fdt) ≡ o → Told o
+        → (let r = fdt-running-by now (real-draft draft) s o in Kept s (Def.Call.run-fdt now (draft-of draft)) (fdt-answer (r .taken) (r .answer)) (r .sender))
+    by none e t = run-done s now draft v e
+    by (some n) e t = run-refused s now draft v n e _ t

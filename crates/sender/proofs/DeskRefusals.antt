@@ -1,0 +1,90 @@
+-- Why an add is refused: the desk's table is the list's, read off the records.
+use mathlib.Core.Path.{_≡_, refl, sym, _∙_, ap}
+use mathlib.Core.Bool.{Bool, true, false, not, _||_}
+use mathlib.Core.Option.{some}
+use mathlib.Core.List.{[], _∷_}
+use Prim.Native.Nat.{ℕ}
+use lib.Dec.{eqb, leb}
+use lib.ListN.{length}
+use Rattle.sizes.specs.Words.{if_then_else_, maybe, any, first-of}
+use Rattle.sizes.specs.Limits.{object-slots}
+use Rattle.sizes.specs.declared.partition.Sizes.{Sizes}
+use Rattle.sizes.proofs.Lists.{any-map}
+use Rattle.sizes.proofs.Tables.{any-counts}
+use Rattle.lifecycle.specs.Setup.{Setup, bad-blocks}
+use Rattle.lifecycle.specs.Parts.{shares, past-store}
+use Rattle.lifecycle.specs.Slots.{no-slot, holds-byte}
+use Rattle.lifecycle.specs.FdtCalls.{used, own-of, bad-part-of, refusal, added-of}
+use Rattle.lifecycle.specs.FdtMeans.{unknown, full}
+use Rattle.lifecycle.specs.declared.parts.Part.{Part}
+use Rattle.lifecycle.specs.declared.slots.Slot.{Slot}
+use Rattle.lifecycle.specs.declared.fdt.Own.{Own}
+use Rattle.lifecycle.specs.declared.fdt.Own.the-variants as OwnV
+use Rattle.lifecycle.specs.declared.fdt.Named.{Named}
+use Rattle.lifecycle.specs.declared.fdt.Named.the-variants as NamedV
+use Rattle.lifecycle.proofs.FdtSearches.{bytes-used}
+use Rattle.lifecycle.proofs.FdtAdds.{refusal-view}
+use Rattle.definition.specs.Session as DefS
+use Rattle.definition.specs.Desk as Def
+use Rattle.sender.specs.SessionCalls.{object-of, session-of}
+use Rattle.sender.specs.SenderCalls.{working, desk-of, Agrees, Valid, named-said, own-said, object-said, has-priority, request-of}
+use Rattle.sender.specs.declared.sender.Sender.{Sender}
+use Rattle.sender.specs.declared.sender.Object.{Object}
+use Rattle.sender.proofs.DeskCounts.{owners, objects-view, owners-used, full-slots, full-view}
+
+-- refusal 2
+pub no-session-view : (s : Sender) (p : ℕ) → Def.no-session (desk-of s) p ≡ not (any (has-priority p) (working s))
+unfolding Def.no-session desk-of
+no-session-view s p = ap not (any-map (λ (x : DefS.Session). eqb (x .priority) p) (session-of (s .fdt .slots)) (working s))
+
+-- refusal 4 asks of the same E and B
+pub own-view : (u : Setup) (z : Sizes) → u .sizes ≡ z → (o : Object) → Def.own-sizes u (object-said o) ≡ own-of (o .own) z
+unfolding Def.own-sizes own-of
+own-view u z e o = go (o .own)
+  where
+    go : (w : Own) → maybe (u .sizes) (λ z. z) (own-said w) ≡ own-of w z
+    go (OwnV.Sizes y) = refl
+    go OwnV.SetUp = e
+
+-- refusal 5
+pub part-view : (u : Setup) (s : Sender) → Agrees u s → Valid s → (c : Part) → Def.bad-object-part u (desk-of s) c ≡ bad-part-of (s .fdt) c
+unfolding Def.bad-object-part bad-part-of
+part-view u s a v c =
+    let ok : DefS.Object → Bool = λ o. shares c (o .part) in
+    let held : any ok (Def.objects (desk-of s)) ≡ any (holds-byte c) (s .fdt .slots)
+    = ap (any ok) (objects-view s)
+    ∙ any-counts no-slot used (s .fdt .slots) (owners s) refl (owners-used s v) ok (λ (y : Slot). object-of (y .file))
+    ∙ sym (bytes-used (s .fdt) (v .holds .valid) c) in
+    λ i. past-store (a .object-store i) c || held i
+
+-- refusal 6
+pub not-loose-view : (s : Sender) (named : Named) → Def.not-loose (desk-of s) (named-said named) ≡ unknown named (s .fdt)
+unfolding Def.not-loose desk-of
+not-loose-view s (NamedV.Toi t) = refl
+not-loose-view s NamedV.Anew = refl
+
+-- refusal 7
+pub no-room-view : (s : Sender) → Valid s → (named : Named) → Def.no-room (desk-of s) (named-said named) ≡ full named (s .fdt)
+unfolding Def.no-room
+no-room-view s v (NamedV.Toi t) = or-nothing (leb object-slots (length (Def.objects (desk-of s)))) ∙ full-slots s v
+  where
+    or-nothing : (b : Bool) → (b || false) ≡ b
+    or-nothing true = refl
+    or-nothing false = refl
+no-room-view s v NamedV.Anew = λ i. full-slots s v i || full-view s v i
+
+-- the table: 2, and then the list's own
+pub add-refusal-view : (u : Setup) (s : Sender) → Agrees u s → Valid s → (o : Object) (named : Named)
+    → Def.add-refusal u (desk-of s) (named-said named) (object-said o)
+    ≡ (if not (any (has-priority (o .priority)) (working s)) then some 2 else refusal (added-of (s .fdt) (request-of o) named .answer))
+unfolding Def.add-refusal desk-of request-of
+add-refusal-view u s a v o named =
+    (λ i. first-of
+    ((2, no-session-view s (o .priority) i)
+    ∷ (3, s .fdt .complete)
+    ∷ (4, bad-blocks (own-view u (s .fdt .settings .sizes) (a .sizes) o i) (o .part .size))
+    ∷ (5, part-view u s a v (o .part) i)
+    ∷ (6, not-loose-view s named i)
+    ∷ (7, no-room-view s v named i)
+    ∷ []))
+    ∙ ap (λ r. if not (any (has-priority (o .priority)) (working s)) then some 2 else r) (sym (refusal-view (s .fdt) (request-of o) named))

@@ -1,0 +1,341 @@
+-- Set-up: which numbers are in their ranges, and that the sender which it opens is the definition's opening desk.
+use mathlib.Core.Path.{_≡_, refl, sym, _∙_, ap, subst}
+use mathlib.Core.Bool.{Bool, true, false, _&&_, false≢true}
+use mathlib.Core.Option.{none, some}
+use mathlib.Core.List.{List, [], _∷_, map}
+use Prim.Native.Nat.{ℕ, zero, suc, _≤_}
+use native.Mathlib.Omega.{arith}
+use lib.Dec.{eqb, leb}
+use lib.ListN.{length, getD, take, replicate, length-replicate}
+use lib.Seq.{length-take-le}
+use borrow.Author.Tests.{eqb-true, eqb-false, ne-eqb, le-leb, le-ltb, leb-true}
+use mir.Syntax.{w32}
+use mir.Val.{Fits}
+use Rattle.sizes.specs.Words.{if_then_else_, all, has, within, collect, one-if, times}
+use Rattle.sizes.specs.Limits.{object-slots, most-sessions, largest-priority, largest-window, longest-store, largest-fdt-id}
+use Rattle.sizes.specs.Toi.{first-toi}
+use Rattle.sizes.specs.Allocator as Alloc
+use Rattle.sizes.specs.declared.toiallocator.ToiMaxLength.{ToiMaxLength}
+use Rattle.sizes.specs.declared.toiallocator.ToiMaxLength.the-variants.{ToiMax16, ToiMax32, ToiMax48, ToiMax64}
+use Rattle.sizes.proofs.Tests.{Tested, pass, fail, tested, and-left, and-right}
+use Rattle.lifecycle.specs.Lifecycle as Life
+use Rattle.lifecycle.specs.Setup.{sound, sound-sizes, widths}
+use Rattle.lifecycle.specs.Setup.{Setup as DefSetup}
+use Rattle.lifecycle.specs.Slots.{no-slot}
+use Rattle.lifecycle.specs.Announce.{state-of}
+use Rattle.lifecycle.specs.FdtCalls.{sends, used, opening-fdt}
+use Rattle.lifecycle.specs.FdtCalls.{Valid as ListValid}
+use Rattle.lifecycle.specs.declared.slots.Slot.{Slot}
+use Rattle.lifecycle.specs.declared.fdt.Fdt.{Fdt}
+use Rattle.lifecycle.proofs.SetupLaws.{told}
+use Rattle.lifecycle.proofs.PublishLaws.{valid-opened}
+use Rattle.definition.specs.Desk as Def
+use Rattle.sender.specs.SessionCalls.{idle-of, session-of}
+use Rattle.sender.specs.SessionMeans.{Stands}
+use Rattle.sender.specs.SenderCalls.{desk-of, Agrees, Valid, slot-in}
+use Rattle.sender.specs.SetupCalls.{carousel-said, priorities-said, setup-said, width-said, is-interval, interval-in, settings-of, priority-at, opening-of, plain, refused-of, opened-of, Opens}
+use Rattle.sender.specs.declared.sendersession.SenderSession.{SenderSession}
+use Rattle.sender.specs.declared.setup.Setup.{Setup}
+use Rattle.sender.specs.declared.setup.FdtCarousel.{FdtCarousel}
+use Rattle.sender.specs.declared.setup.FdtCarousel.the-variants as CarouselV
+use Rattle.sender.specs.declared.setup.Width.the-variants as WidthV
+
+-- ---- tests
+
+-- a test that passes leaves the answer to the next, and one that fails is the answer
+pub both : {a b x y : Bool} → x ≡ a → x ≡ true → y ≡ b → y ≡ (a && b)
+both {a} {b} e t f = f ∙ ap (λ q. q && b) (sym t ∙ e)
+
+pub not-first : (b : Bool) {a x : Bool} → x ≡ a → x ≡ false → x ≡ (a && b)
+not-first b e f = f ∙ ap (λ q. q && b) (sym f ∙ e)
+
+-- ---- every number in its range
+
+-- what an accepted set-up passes
+pub record Passed (s : DefSetup) : Type 0 where
+  pub sessions : within 1 most-sessions (length (s .priorities)) ≡ true
+  pub window : within 1 largest-window (s .window) ≡ true
+  pub sizes : sound-sizes (s .sizes) ≡ true
+  pub object-store : leb (s .object-store) longest-store ≡ true
+  pub fdt-store : leb (s .fdt-store) longest-store ≡ true
+  pub width : has (s .width) widths ≡ true
+
+module _ (s : DefSetup) where
+  pub passed : sound s ≡ true → Passed s
+  unfolding sound
+  passed k =
+      let a = within 1 most-sessions (length (s .priorities)) in
+      let b = all (λ p. leb p largest-priority) (s .priorities) in
+      let c = within 1 largest-window (s .window) in
+      let d = sound-sizes (s .sizes) in
+      let e = leb (s .object-store) longest-store in
+      let f = leb (s .fdt-store) longest-store in
+      let g = has (s .width) widths in
+      let h = leb (s .first-id) largest-fdt-id in
+      let r7 = and-left (a && b && c && d && e && f && g) h k in
+      let r6 = and-left (a && b && c && d && e && f) g r7 in
+      let r5 = and-left (a && b && c && d && e) f r6 in
+      let r4 = and-left (a && b && c && d) e r5 in
+      let r3 = and-left (a && b && c) d r4 in
+      record {
+        sessions = and-left a b (and-left (a && b) c r3);
+        window = and-right (a && b) c r3;
+        sizes = and-right (a && b && c) d r4;
+        object-store = and-right (a && b && c && d) e r5;
+        fdt-store = and-right (a && b && c && d && e) f r6;
+        width = and-right (a && b && c && d && e && f) g r7;
+      }
+
+  -- one that fails refuses it
+  pub refused-by : {t : Bool} → (sound s ≡ true → t ≡ true) → t ≡ false → sound s ≡ false
+  refused-by f q = go (tested (sound s))
+    where
+      go : Tested (sound s) → sound s ≡ false
+      go (pass k) = absurd (false≢true (sym q ∙ f k))
+      go (fail k) = k
+
+  -- where all pass, and the priorities are in their range, it goes by the first FDT id
+  pub by-id : Passed s → all (λ p. leb p largest-priority) (s .priorities) ≡ true → sound s ≡ leb (s .first-id) largest-fdt-id
+  unfolding sound
+  by-id q b = λ i. q .sessions i && b i && q .window i && q .sizes i && q .object-store i && q .fdt-store i && q .width i && leb (s .first-id) largest-fdt-id
+
+-- every priority of 32 bits is in its range
+small-all : (n : ℕ) (l : List ℕ) → ((i : ℕ) → Fits w32 (getD l i 0)) → all (λ p. leb p largest-priority) (take n l) ≡ true
+small-all zero l h = refl
+small-all (suc n) [] h = refl
+small-all (suc n) (a ∷ l) h = rw (le-leb a largest-priority (let z = h 0 .fits in omega arith)) (small-all n l (λ i. h (suc i)))
+
+zeros-all : (n : ℕ) → all (λ p. leb p largest-priority) (replicate n 0) ≡ true
+zeros-all zero = refl
+zeros-all (suc n) = zeros-all n
+
+-- what a call's set-up names: four priorities of 32 bits
+module _ (z : Setup) where
+  counted : length (z .priorities) ≡ most-sessions → length (priorities-said z) ≡ z .count
+  counted l = go (tested (leb (z .count) most-sessions))
+    where
+      go : Tested (leb (z .count) most-sessions) → length (priorities-said z) ≡ z .count
+      go (pass e) = rw e (length-take-le (z .count) (z .priorities) (let h = leb-true (z .count) most-sessions e in omega arith))
+      go (fail e) = rw e (length-replicate {A = ℕ} (z .count) 0)
+
+  pub few-named : length (z .priorities) ≡ most-sessions → {t : Bool} → within 1 most-sessions (z .count) ≡ t → within 1 most-sessions (length (priorities-said z)) ≡ t
+  few-named l e = ap (within 1 most-sessions) (counted l) ∙ e
+
+  pub small-named : ((i : ℕ) → Fits w32 (getD (z .priorities) i 0)) → all (λ p. leb p largest-priority) (priorities-said z) ≡ true
+  small-named h = go (tested (leb (z .count) most-sessions))
+    where
+      go : Tested (leb (z .count) most-sessions) → all (λ p. leb p largest-priority) (priorities-said z) ≡ true
+      go (pass e) = rw e (small-all (z .count) (z .priorities) h)
+      go (fail e) = rw e (zeros-all (z .count))
+
+-- ---- widths
+
+bits-has : (w : ToiMaxLength) → has (Alloc.bits w) widths ≡ true
+bits-has ToiMax16 = refl
+bits-has ToiMax32 = refl
+bits-has ToiMax48 = refl
+bits-has ToiMax64 = refl
+
+bits-said : (w : ToiMaxLength) → width-said (Alloc.bits w) ≡ WidthV.Is w
+unfolding width-said
+bits-said ToiMax16 = refl
+bits-said ToiMax32 = refl
+bits-said ToiMax48 = refl
+bits-said ToiMax64 = refl
+
+-- a number is one of the four widths, or none of them
+data Wide (n : ℕ) : Type 0 where
+  one : (w : ToiMaxLength) → n ≡ Alloc.bits w → Wide n
+  other : has n widths ≡ false → width-said n ≡ WidthV.Bad → Wide n
+
+module _ (n : ℕ) where
+  wide : Wide n
+  unfolding width-said
+  wide = go (tested (eqb n 16)) (tested (eqb n 32)) (tested (eqb n 48)) (tested (eqb n 64))
+    where
+      turned : (m : ℕ) → eqb n m ≡ false → eqb m n ≡ false
+      turned m e = ne-eqb m n (λ q. eqb-false n m e (sym q))
+
+      go : Tested (eqb n 16) → Tested (eqb n 32) → Tested (eqb n 48) → Tested (eqb n 64) → Wide n
+      go (pass p) x y z = one ToiMax16 (eqb-true n 16 p)
+      go (fail p) (pass q) y z = one ToiMax32 (eqb-true n 32 q)
+      go (fail p) (fail q) (pass r) z = one ToiMax48 (eqb-true n 48 r)
+      go (fail p) (fail q) (fail r) (pass s) = one ToiMax64 (eqb-true n 64 s)
+      go (fail p) (fail q) (fail r) (fail s) = other (rw (turned 16 p, turned 32 q, turned 48 r, turned 64 s)) (rw (p, q, r, s))
+
+  unlike : (w : ToiMaxLength) → WidthV.Is w ≡ WidthV.Bad → ⊥
+  unlike w e = let x : _≡_ {A = ℕ} 0 1 = cc in omega arith
+
+  -- what the code finds
+  pub width-bad : width-said n ≡ WidthV.Bad → has n widths ≡ false
+  width-bad e = go wide
+    where
+      go : Wide n → has n widths ≡ false
+      go (one w q) = absurd (unlike w (sym (ap width-said q ∙ bits-said w) ∙ e))
+      go (other h q) = h
+
+  pub width-is : (w : ToiMaxLength) → width-said n ≡ WidthV.Is w → n ≡ Alloc.bits w
+  width-is w e = go wide
+    where
+      go : Wide n → n ≡ Alloc.bits w
+      go (one v q) = let r = sym (ap width-said q ∙ bits-said v) ∙ e in let x : v ≡ w = cc in q ∙ ap Alloc.bits x
+      go (other h q) = absurd (unlike w (sym e ∙ q))
+
+  pub width-has : (w : ToiMaxLength) → width-said n ≡ WidthV.Is w → has n widths ≡ true
+  width-has w e = ap (λ m. has m widths) (width-is w e) ∙ bits-has w
+
+  -- one of the four
+  a-wide : has n widths ≡ true → Alloc.Width n
+  a-wide e = go wide
+    where
+      go : Wide n → Alloc.Width n
+      go (one w q) = (w, q)
+      go (other h q) = absurd (false≢true (sym h ∙ e))
+
+-- ---- the sessions of the opening sender
+
+-- four idle sessions, with these priorities
+abbrev four : (ℕ → ℕ) → List SenderSession
+four p = map idle-of (map p (0 ∷ 1 ∷ 2 ∷ 3 ∷ []))
+
+-- each has nothing in hand
+idle-stands : (f : Fdt) (w p : ℕ) → Stands f w (idle-of p)
+idle-stands f w p = record { busy = λ q. absurd (false≢true q); idle = λ q. refl }
+
+four-stand : (f : Fdt) (w : ℕ) (p : ℕ → ℕ) (i : ℕ) → Stands f w (getD (four p) i (idle-of 0))
+four-stand f w p zero = idle-stands f w (p 0)
+four-stand f w p (suc zero) = idle-stands f w (p 1)
+four-stand f w p (suc (suc zero)) = idle-stands f w (p 2)
+four-stand f w p (suc (suc (suc zero))) = idle-stands f w (p 3)
+four-stand f w p (suc (suc (suc (suc i)))) = idle-stands f w 0
+
+no-hands : (n : ℕ) (l : List ℕ) → collect slot-in (take n (map idle-of l)) ≡ []
+no-hands zero l = refl
+no-hands (suc n) [] = refl
+no-hands (suc n) (p ∷ l) = no-hands n l
+
+-- zeros past the sessions in use
+module _ (l : List ℕ) (n : ℕ) where
+  past : (i : ℕ) → n ≤ i → idle-of (priority-at l n i) ≡ idle-of 0
+  unfolding priority-at
+  past i h = ap (λ t. idle-of (if t then getD l i 0 else 0)) (le-ltb i n h)
+
+  four-spare : (i : ℕ) → n ≤ i → getD (four (priority-at l n)) i (idle-of 0) ≡ idle-of 0
+  four-spare zero h = past 0 h
+  four-spare (suc zero) h = past 1 h
+  four-spare (suc (suc zero)) h = past 2 h
+  four-spare (suc (suc (suc zero))) h = past 3 h
+  four-spare (suc (suc (suc (suc i)))) h = refl
+
+-- those in use have the priorities that were named
+named : (t : List Slot) (l : List ℕ) (n : ℕ) → length l ≡ 4 → n ≤ 4
+    → map (session-of t) (take n (four (priority-at l n))) ≡ map (λ p. record { priority = p; hand = none }) (take n l)
+unfolding priority-at
+named t (x ∷ y ∷ z ∷ w ∷ []) zero q h = refl
+named t (x ∷ y ∷ z ∷ w ∷ []) (suc zero) q h = refl
+named t (x ∷ y ∷ z ∷ w ∷ []) (suc (suc zero)) q h = refl
+named t (x ∷ y ∷ z ∷ w ∷ []) (suc (suc (suc zero))) q h = refl
+named t (x ∷ y ∷ z ∷ w ∷ []) (suc (suc (suc (suc zero)))) q h = refl
+named t (x ∷ y ∷ z ∷ w ∷ []) (suc (suc (suc (suc (suc n))))) q h = absurd (omega arith)
+named t [] n q h = absurd (omega arith)
+named t (x ∷ []) n q h = absurd (omega arith)
+named t (x ∷ y ∷ []) n q h = absurd (omega arith)
+named t (x ∷ y ∷ z ∷ []) n q h = absurd (omega arith)
+named t (x ∷ y ∷ z ∷ w ∷ v ∷ l) n q h = absurd (omega arith)
+
+-- ---- the opening sender
+
+no-slots : (m k : ℕ) → getD (replicate m no-slot) k no-slot ≡ no-slot
+no-slots zero k = refl
+no-slots (suc m) zero = refl
+no-slots (suc m) (suc k) = no-slots m k
+
+-- what every call is given
+pub record OpeningKept (z : Setup) : Type 0 where
+  pub means : desk-of (opening-of z) ≡ Def.opening (setup-said z)
+  pub agrees : Agrees (setup-said z) (opening-of z)
+  pub valid : Valid (opening-of z)
+
+module _ (z : Setup) (long : length (z .priorities) ≡ most-sessions) (ok : sound (setup-said z) ≡ true) where
+  few : z .count ≤ most-sessions
+  few = let q = told (setup-said z) ok .sessions .1 in let l = counted z long in omega arith
+
+  desk-opened : desk-of (opening-of z) ≡ Def.opening (setup-said z)
+  unfolding desk-of opening-of Def.opening opening-fdt Alloc.opening state-of
+  desk-opened =
+      let q : (if leb (z .count) most-sessions then take (z .count) (z .priorities) else replicate (z .count) 0) ≡ take (z .count) (z .priorities) = rw (le-leb (z .count) most-sessions few) in
+      let e = named (replicate object-slots no-slot) (z .priorities) (z .count) long few ∙ sym (ap (map (λ p. record { priority = p; hand = none })) q) in
+      λ i. record {
+        complete = false;
+        next = first-toi (z .width) (z .«first_toi»);
+        loose = [];
+        queue = [];
+        sessions = e i;
+        fdt = record { state = record { next-id = z .«first_fdt_id»; last = none; waiting = []; current = none }; hand = none };
+      }
+
+  agrees-opened : Agrees (setup-said z) (opening-of z)
+  unfolding opening-of opening-fdt Alloc.opening
+  agrees-opened = record { window = refl; sizes = refl; object-store = refl; fdt-store = refl; width = refl; carousel = by-carousel (z .carousel); validity = refl }
+    where
+      by-carousel : (k : FdtCarousel) → carousel-said k ≡ (if is-interval k then Life.Carousel.interval (interval-in k) else Life.Carousel.delay (interval-in k))
+      by-carousel (CarouselV.Delay t) = refl
+      by-carousel (CarouselV.Interval t) = refl
+
+  list-valid : ListValid (opening-of z .fdt)
+  unfolding opening-of
+  list-valid =
+      let w = a-wide (z .width) (passed (setup-said z) ok .width) in
+      subst (λ n. ListValid (opening-fdt (settings-of z) (Alloc.opening n (z .«first_toi»)) (z .«first_fdt_id»))) (sym (w .1))
+      (valid-opened (settings-of z) (w .0) (z .«first_toi») (z .«first_fdt_id») (told (setup-said z) ok .first-id))
+
+  valid-opened-sender : Valid (opening-of z)
+  unfolding opening-of opening-fdt
+  valid-opened-sender =
+      let t = told (setup-said z) ok in
+      let free = no-slots object-slots in
+      record {
+        holds = record { valid = list-valid; good = λ k u. absurd (false≢true (sym (ap used (free k)) ∙ u)) };
+        fdt-holds = record { valid = list-valid; waiting = λ i h. absurd (omega arith); current = λ q. absurd (false≢true q) };
+        object-store = t .object-store;
+        fdt-store = t .fdt-store;
+        narrow = t .window .1;
+        few = few;
+        long = refl;
+        sessions = λ i h. four-stand (opening-of z .fdt) (z .window) (priority-at (z .priorities) (z .count)) i;
+        spare = four-spare (z .priorities) (z .count);
+        in-hand = λ k. ap (times k) (no-hands (z .count) (map (priority-at (z .priorities) (z .count)) (0 ∷ 1 ∷ 2 ∷ 3 ∷ []))) ∙ sym (ap (λ v. one-if (sends v)) (free k));
+        fdt-busy = λ q. absurd (false≢true q);
+        fdt-idle = λ q. refl;
+        matched = refl;
+      }
+
+  pub opening-kept : OpeningKept z
+  opening-kept = record { means = desk-opened; agrees = agrees-opened; valid = valid-opened-sender }
+
+-- ---- set-up
+
+pub plain-sound : sound (setup-said plain) ≡ true
+unfolding sound sound-sizes
+plain-sound = refl
+
+module _ (z : Setup) where
+  pub opens-not : sound (setup-said z) ≡ false → Opens z refused-of
+  unfolding opened-of Def.set-up
+  opens-not q = record {
+    exact = rw q;
+    means = rw q;
+    agrees = λ h. absurd (false≢true h);
+    valid = opening-kept plain refl plain-sound .valid;
+  }
+
+  pub opens : length (z .priorities) ≡ most-sessions → sound (setup-said z) ≡ true → Opens z (record { ok = true; sender = opening-of z })
+  unfolding opened-of Def.set-up
+  opens long q =
+      let k = opening-kept z long q in
+      record {
+        exact = rw q;
+        means = rw q (ap (λ x. (Def.Answer.done, some x)) (sym (k .means)));
+        agrees = λ h. k .agrees;
+        valid = k .valid;
+      }

@@ -1,0 +1,22 @@
+use Rattle.lifecycle.specs.declared.fdt.Published.{Published}
+use Rattle.sender.specs.SenderCalls.{with-list, publishing-of, Publishes}
+use Rattle.sender.specs.declared.sender.Publishing.{Publishing}
+use Rattle.sender.proofs.SenderKept.{publishes}
+use mathlib.Core.Path.{sym, ap, subst}
+use borrow.Author.Needs.{needs}
+use Rattle.sender.proofs.sender.Sender.publish.Statement.{statement}
+use Rattle.sender.proofs.sender.Sender.publish.Tie as tie
+
+publish-requires : tie.Need-publish-requires
+publish-requires c κs = search needs
+
+returns : tie.Need-returns
+unfolding publishing-of
+returns c =
+    let s = c .before .before .before in
+    let a = s .args in
+    let g : Published → Publishing = λ r. record { answer = r .answer; sender = with-list (a .self) (r .fdt) } in
+    subst (Publishes (a .now) (a .part) (a .self)) (sym (ap g (c .before .publish .ensures))) (publishes (a .self) (s .pre) (a .now) (a .part))
+
+pub publish-spec : {M : Type 1} → statement M
+publish-spec = tie.close (tie.spec publish-requires returns)

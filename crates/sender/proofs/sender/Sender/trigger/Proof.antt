@@ -1,0 +1,22 @@
+use Rattle.lifecycle.specs.declared.fdt.Told.{Told}
+use Rattle.sender.specs.SenderCalls.{with-list, prompting-of, Prompts}
+use Rattle.sender.specs.declared.sender.Telling.{Telling}
+use Rattle.sender.proofs.SenderKept.{prompts}
+use mathlib.Core.Path.{sym, ap, subst}
+use borrow.Author.Needs.{needs}
+use Rattle.sender.proofs.sender.Sender.trigger.Statement.{statement}
+use Rattle.sender.proofs.sender.Sender.trigger.Tie as tie
+
+trigger-transfer-at-requires : tie.Need-trigger-transfer-at-requires
+trigger-transfer-at-requires c κs = search needs
+
+returns : tie.Need-returns
+unfolding prompting-of
+returns c =
+    let s = c .before .before .before in
+    let a = s .args in
+    let g : Told → Telling = λ r. record { yes = r .yes; sender = with-list (a .self) (r .fdt) } in
+    subst (Prompts (a .toi) (a .start) (a .self)) (sym (ap g (c .before .trigger-transfer-at .ensures))) (prompts (a .self) (s .pre) (a .toi) (a .start))
+
+pub trigger-spec : {M : Type 1} → statement M
+trigger-spec = tie.close (tie.spec trigger-transfer-at-requires returns)

@@ -1,0 +1,23 @@
+use Rattle.lifecycle.specs.Setup.{sound-sizes}
+use Rattle.sender.proofs.SetupCallsLaws.{both, not-first}
+use borrow.Author.Needs.{needs}
+use Rattle.sender.proofs.setup.are_sound_sizes.Statement.{statement}
+use Rattle.sender.proofs.setup.are_sound_sizes.Tie as tie
+
+is-within-requires : tie.Need-is-within-requires
+is-within-requires c κs = search needs
+
+is-within-requires-2 : tie.Need-is-within-requires-2
+is-within-requires-2 c κs = search needs
+
+returns : tie.Need-returns
+unfolding sound-sizes
+returns c = both (c .before .before .is-within .ensures) (c .before .if1 .taken) (c .is-within2 .ensures)
+
+returns-2 : tie.Need-returns-2
+unfolding sound-sizes
+returns-2 c = not-first _ (c .before .is-within .ensures) (c .if1 .left)
+
+pub are-sound-sizes-spec : {M : Type 1} → statement M
+are-sound-sizes-spec =
+    tie.close (tie.spec is-within-requires is-within-requires-2 returns returns-2)

@@ -1,0 +1,136 @@
+// The FDT session: it sends the current FDT, and asks for the next (src/sender/sendersession.rs, with an FDT).
+ghost use mathlib.Core.Path.{_≡_};
+ghost use mathlib.Core.Bool.{_||_};
+ghost use Rattle.sender.specs.FdtSessionCalls.{FdtRuns, FdtTries, left-of, fdt-idle-of, fdt-begun-of, fdt-sent-of, fdt-attempted-of, fdt-ran-of};
+use crate::blockencoder::BlockEncoder;
+use crate::blockencoder::Emitted;
+use crate::sendersession::Served;
+use crate::sendersession::no_encoder;
+use lifecycle::announce::Draft;
+use lifecycle::fdt::Fdt;
+use lifecycle::parts::Part;
+use sizes::partition::Sizes;
+
+// `id` is the FDT's in hand while `busy`.
+#[repr(C)]
+pub struct FdtSession {
+    pub busy: bool,
+    pub id: u32,
+    pub encoder: BlockEncoder,
+}
+
+// What a run comes to, and whether it took the draft.
+pub struct FdtRan {
+    pub taken: bool,
+    pub answer: Served,
+    pub fdt: Fdt,
+    pub session: FdtSession,
+}
+
+// A draft that was taken is not there any more.
+fn left_draft(draft: Draft, taken: bool) -> Draft
+    ensures { λ r. ⌜ r ≡ left-of draft taken ⌝ }
+{
+    if taken { Draft::Missing } else { draft }
+}
+
+// Is one of them true?
+fn either(a: bool, b: bool) -> bool
+    ensures { λ r. ⌜ r ≡ (a || b) ⌝ }
+{
+    if a { true } else { b }
+}
+
+impl FdtSession {
+    // With nothing in hand.
+    pub fn idle() -> FdtSession
+        ensures { λ r. ⌜ r ≡ fdt-idle-of ⌝ }
+    {
+        FdtSession {
+            busy: false,
+            id: 0,
+            encoder: no_encoder(),
+        }
+    }
+
+    // The FDT that starts is in hand; an FDT has a carousel, so no packet of it closes.
+    fn begin(id: u32, part: Part, sizes: Sizes, width: usize) -> FdtSession
+        ensures { λ r. ⌜ r ≡ fdt-begun-of width id part sizes ⌝ }
+    {
+        FdtSession {
+            busy: true,
+            id,
+            encoder: BlockEncoder::new(part, sizes, width, false),
+        }
+    }
+
+    // The next packet of what is in hand; at the end of its transfer it is done. It is never forced.
+    fn send(self, fdt: Fdt, now: u64, taken: bool) -> FdtRan
+        requires { ⌜ FdtRuns fdt self ⌝ }
+        ensures { λ r. ⌜ r ≡ fdt-sent-of now taken fdt self ⌝ }
+    {
+        if self.busy {
+            let encoder = self.encoder;
+            let r = encoder.read(false);
+            let answer = r.answer;
+            let after = r.encoder;
+            let Emitted::One(s) = answer else {
+                return FdtRan {
+                    taken,
+                    answer: Served::Over,
+                    fdt: fdt.fdt_transfer_done(now),
+                    session: FdtSession::idle(),
+                };
+            };
+            let mut x = self;
+            x.encoder = after;
+            return FdtRan {
+                taken,
+                answer: Served::Sent(s),
+                fdt,
+                session: x,
+            };
+        }
+        FdtRan {
+            taken,
+            answer: Served::Idle,
+            fdt,
+            session: self,
+        }
+    }
+
+    // With nothing in hand ask for the next FDT; then send.
+    fn attempt(self, fdt: Fdt, width: usize, now: u64, draft: Draft, taken: bool) -> FdtRan
+        requires { ⌜ FdtTries fdt width draft self ⌝ }
+        ensures { λ r. ⌜ r ≡ fdt-attempted-of width now draft taken fdt self ⌝ }
+    {
+        if self.busy {
+            return self.send(fdt, now, taken);
+        }
+        let sizes = fdt.settings.sizes;
+        let n = fdt.get_next_fdt_transfer(now, left_draft(draft, taken));
+        let f = n.fdt;
+        let told = either(taken, n.taken);
+        if n.starts {
+            let i = f.announcer.current;
+            let x = FdtSession::begin(i.id, i.part, sizes, width);
+            return x.send(f, now, told);
+        }
+        self.send(f, now, told)
+    }
+
+    // On the end of a transfer it goes round again, once.
+    pub(crate) fn run(self, fdt: Fdt, width: usize, now: u64, draft: Draft) -> FdtRan
+        requires { ⌜ FdtTries fdt width draft self ⌝ }
+        ensures { λ r. ⌜ r ≡ fdt-ran-of width now draft fdt self ⌝ }
+    {
+        let a = self.attempt(fdt, width, now, draft, false);
+        let answer = a.answer;
+        if let Served::Over = answer {
+            let f = a.fdt;
+            let x = a.session;
+            return x.attempt(f, width, now, draft, a.taken);
+        }
+        a
+    }
+}

@@ -1,0 +1,220 @@
+// A file session: it has one object in hand at a time and sends its packets (src/sender/sendersession.rs).
+ghost use mathlib.Core.Path.{_≡_};
+ghost use Prim.Native.Nat.{_≤_};
+ghost use Rattle.sender.specs.EncoderCalls.{Valid as EncoderValid};
+ghost use Rattle.sender.specs.SessionCalls.{Ready, Holds, Runs, no-encoder, idle-of, begun-of, forced-slot, served-of, attended-of, taken-on-of, ran-of};
+use crate::block::no_open;
+use crate::blockencoder::BlockEncoder;
+use crate::blockencoder::Content;
+use crate::blockencoder::Emitted;
+use crate::blockencoder::Symbol;
+use lifecycle::fdt::Fdt;
+use lifecycle::filedesc::FileDesc;
+use lifecycle::filedesc::Pace;
+use lifecycle::parts::Part;
+use lifecycle::slots::Place;
+use lifecycle::slots::Slot;
+use sizes::numbers::Sbn;
+use sizes::partition::Partition;
+use sizes::partition::Sizes;
+
+// `slot` is the object in hand while `busy`; the due time and the tick are its transfer's.
+#[repr(C)]
+pub struct SenderSession {
+    pub priority: u32,
+    pub busy: bool,
+    pub slot: usize,
+    pub pace: Pace,
+    pub encoder: BlockEncoder,
+}
+
+// What a session comes to: no packet now, a packet's symbol, or that the transfer is over.
+pub enum Served {
+    Idle,
+    Sent(Symbol),
+    Over,
+}
+
+pub struct Service {
+    pub answer: Served,
+    pub session: SenderSession,
+}
+
+pub struct Ran {
+    pub answer: Served,
+    pub fdt: Fdt,
+    pub session: SenderSession,
+}
+
+// No transfer: zeros.
+pub fn no_encoder() -> BlockEncoder
+    ensures { λ r. ⌜ r ≡ no-encoder ⌝ }
+{
+    let none = no_open();
+    BlockEncoder {
+        content: Content {
+            part: Part { start: 0, size: 0 },
+            sizes: Sizes { e: 0, b: 0 },
+            partition: Partition {
+                large: 0,
+                small: 0,
+                bigs: 0,
+                blocks: 0,
+            },
+        },
+        width: 0,
+        closable: false,
+        begun: false,
+        stopped: false,
+        next: Sbn(0),
+        filled: 0,
+        index: 0,
+        window: [none; 16],
+    }
+}
+
+// Is the transfer to be forced to its end: the object may be stopped, and is not listed?
+fn is_forced(v: Slot) -> bool
+    ensures { λ r. ⌜ r ≡ forced-slot v ⌝ }
+{
+    if v.listed {
+        return false;
+    }
+    let file = v.file;
+    file.can_transfer_be_stopped()
+}
+
+impl SenderSession {
+    // With nothing in hand.
+    pub fn idle(priority: u32) -> SenderSession
+        ensures { λ r. ⌜ r ≡ idle-of priority ⌝ }
+    {
+        SenderSession {
+            priority,
+            busy: false,
+            slot: 0,
+            pace: Pace {
+                paced: false,
+                due: 0,
+                tick: 0,
+            },
+            encoder: no_encoder(),
+        }
+    }
+
+    // The object in slot k, whose transfer has started, is in hand.
+    fn begin(priority: u32, k: usize, file: FileDesc, width: usize, now: u64) -> SenderSession
+        ensures { λ r. ⌜ r ≡ begun-of width now priority k file ⌝ }
+    {
+        let part = file.part;
+        let sizes = file.sizes;
+        let pace = file.pace_from(now);
+        let closable = file.is_last_transfer();
+        SenderSession {
+            priority,
+            busy: true,
+            slot: k,
+            pace,
+            encoder: BlockEncoder::new(part, sizes, width, closable),
+        }
+    }
+
+    // Nothing while an FDT is queued or before the due time; else the next packet, or that the transfer is over.
+    fn serve(self, forced: bool, blocked: bool, now: u64) -> Service
+        requires { ⌜ EncoderValid (self .encoder) ⌝ }
+        ensures { λ r. ⌜ r ≡ served-of forced blocked now self ⌝ }
+    {
+        if blocked {
+            return Service {
+                answer: Served::Idle,
+                session: self,
+            };
+        }
+        let pace = self.pace;
+        if pace.is_early(now) {
+            return Service {
+                answer: Served::Idle,
+                session: self,
+            };
+        }
+        let encoder = self.encoder;
+        let r = encoder.read(forced);
+        let answer = r.answer;
+        let after = r.encoder;
+        let Emitted::One(s) = answer else {
+            return Service {
+                answer: Served::Over,
+                session: self,
+            };
+        };
+        let mut x = self;
+        x.pace = pace.ticked();
+        x.encoder = after;
+        Service {
+            answer: Served::Sent(s),
+            session: x,
+        }
+    }
+
+    // With an object in hand: at the end of its transfer it is done, and the hand is empty.
+    fn attend(self, fdt: Fdt, now: u64) -> Ran
+        requires { ⌜ Ready fdt self ⌝ }
+        ensures { λ r. ⌜ r ≡ attended-of now fdt self ⌝ }
+    {
+        let k = self.slot;
+        let v = fdt.slots[k];
+        let blocked = fdt.need_transfer_fdt();
+        let r = self.serve(is_forced(v), blocked, now);
+        let answer = r.answer;
+        let session = r.session;
+        if let Served::Over = answer {
+            return Ran {
+                answer,
+                fdt: fdt.transfer_done(k, now),
+                session: SenderSession::idle(self.priority),
+            };
+        }
+        Ran {
+            answer,
+            fdt,
+            session,
+        }
+    }
+
+    // With nothing in hand: the first in the queue that may start is taken.
+    fn take_on(self, fdt: Fdt, width: usize, now: u64) -> Ran
+        requires { ⌜ Holds fdt × (width ≤ 16) ⌝ }
+        ensures { λ r. ⌜ r ≡ taken-on-of width now fdt self ⌝ }
+    {
+        let t = fdt.get_next_file_transfer(self.priority, now);
+        let answer = t.answer;
+        let f = t.fdt;
+        let Place::At(k) = answer else {
+            return Ran {
+                answer: Served::Idle,
+                fdt: f,
+                session: self,
+            };
+        };
+        let v = f.slots[k];
+        let x = SenderSession::begin(self.priority, k, v.file, width, now);
+        x.attend(f, now)
+    }
+
+    // In order: without an object take the next; on the end of a transfer go round again, once.
+    pub(crate) fn run(self, fdt: Fdt, width: usize, now: u64) -> Ran
+        requires { ⌜ Runs fdt width self ⌝ }
+        ensures { λ r. ⌜ r ≡ ran-of width now fdt self ⌝ }
+    {
+        if self.busy {
+            let a = self.attend(fdt, now);
+            let answer = a.answer;
+            if let Served::Over = answer {
+                let x = a.session;
+                return x.take_on(a.fdt, width, now);
+            }
+            return a;
+        }
+        self.take_on(fdt, width, now)
+    }
+}
