@@ -120,8 +120,7 @@ fn moved_up(queue: [Instance; 4]) -> [Instance; 4]
         out[j] = i;
         j += 1;
     }
-    let none = no_fdt();
-    out[3] = none;
+    out[3] = no_fdt();
     out
 }
 
@@ -150,19 +149,19 @@ impl Instance {
     }
 
     // Its transfer starts.
-    fn started(self, rule: Rule, now: u64) -> Instance
+    fn started(mut self, rule: Rule, now: u64) -> Instance
         ensures { λ r. ⌜ r ≡ started-instance rule now self ⌝ }
     {
-        let life = self.life.started(rule, now);
-        Instance { life, ..self }
+        self.life = self.life.started(rule, now);
+        self
     }
 
     // Its transfer has ended.
-    fn done(self, now: u64) -> Instance
+    fn done(mut self, now: u64) -> Instance
         ensures { λ r. ⌜ r ≡ done-instance now self ⌝ }
     {
-        let life = self.life.done(now);
-        Instance { life, ..self }
+        self.life = self.life.done(now);
+        self
     }
 }
 
@@ -202,23 +201,19 @@ impl Announcer {
     }
 
     // The part waits under the current id, and the id moves on.
-    fn with_published(self, now: u64, part: Part) -> Announcer
+    fn with_published(mut self, now: u64, part: Part) -> Announcer
         requires { ⌜ FdtValid self × (self .waiting < waiting-fdts) ⌝ }
         ensures { λ r. ⌜ r ≡ queued-of now part self ⌝ }
     {
         let at = self.waiting;
-        let i = Instance::new(self.fdtid, part);
-        let mut a = self;
-        a.queue[at] = i;
-        Announcer {
-            fdtid: (self.fdtid + 1) % 0x10_0000,
-            last_publish: Time {
-                known: true,
-                at: now,
-            },
-            waiting: at + 1,
-            ..a
-        }
+        let mut queue = self.queue;
+        queue[at] = Instance::new(self.fdtid, part);
+        self.queue = queue;
+        self.waiting = at + 1;
+        self.fdtid = (self.fdtid + 1) % 0x10_0000;
+        self.last_publish.known = true;
+        self.last_publish.at = now;
+        self
     }
 
     // The part waits under the current id; where 4 wait, nothing changes.
@@ -233,7 +228,7 @@ impl Announcer {
     }
 
     // The front of the queue, if any, becomes current.
-    fn with_front(self) -> Announcer
+    fn with_front(mut self) -> Announcer
         ensures { λ r. ⌜ r ≡ front-of self ⌝ }
     {
         if self.waiting == 0 {
@@ -241,18 +236,16 @@ impl Announcer {
         }
         let held = self.queue;
         let current = held[0];
+        self.current = current;
+        self.has_current = true;
         let queue = moved_up(held);
-        Announcer {
-            queue,
-            waiting: self.waiting - 1,
-            has_current: true,
-            current,
-            ..self
-        }
+        self.queue = queue;
+        self.waiting -= 1;
+        self
     }
 
     // The current one starts if it may.
-    fn with_start(self, rule: Rule, now: u64, taken: bool) -> NextFdt
+    fn with_start(mut self, rule: Rule, now: u64, taken: bool) -> NextFdt
         ensures { λ r. ⌜ r ≡ start-of rule now taken self ⌝ }
     {
         if !self.has_current {
@@ -262,19 +255,18 @@ impl Announcer {
                 announcer: self,
             };
         }
-        let i = self.current;
-        if !rule.may_start_now(i.life, now) {
+        if !rule.may_start_now(self.current.life, now) {
             return NextFdt {
                 taken,
                 starts: false,
                 announcer: self,
             };
         }
-        let current = i.started(rule, now);
+        self.current = self.current.started(rule, now);
         NextFdt {
             taken,
             starts: true,
-            announcer: Announcer { current, ..self },
+            announcer: self,
         }
     }
 
@@ -289,7 +281,13 @@ impl Announcer {
     }
 
     // The next FDT: nothing new while the current one is transferring; else republish if needed, take the front, start it if it may.
-    pub fn get_next_fdt_transfer(self, rule: Rule, validity: u64, now: u64, draft: Draft) -> NextFdt
+    pub fn get_next_fdt_transfer(
+        mut self,
+        rule: Rule,
+        validity: u64,
+        now: u64,
+        draft: Draft,
+    ) -> NextFdt
         requires { ⌜ FdtValid self ⌝ }
         ensures { λ r. ⌜ r ≡ next-of rule validity now draft self ⌝ }
     {
@@ -301,26 +299,27 @@ impl Announcer {
             };
         }
         if !self.needs_new(validity, now) {
-            return self.with_front().with_start(rule, now, false);
+            self = self.with_front();
+            return self.with_start(rule, now, false);
         }
         let Draft::Given(part) = draft else {
-            return self.with_front().with_start(rule, now, false);
+            self = self.with_front();
+            return self.with_start(rule, now, false);
         };
-        self.with_published(now, part)
-            .with_front()
-            .with_start(rule, now, true)
+        self = self.with_published(now, part);
+        self = self.with_front();
+        self.with_start(rule, now, true)
     }
 
     // The current one is done. It has a carousel, so it stays current.
-    pub fn fdt_transfer_done(self, now: u64) -> Announcer
+    pub fn fdt_transfer_done(mut self, now: u64) -> Announcer
         ensures { λ r. ⌜ r ≡ done-of now self ⌝ }
     {
         if !self.has_current {
             return self;
         }
-        let was = self.current;
-        let current = was.done(now);
-        Announcer { current, ..self }
+        self.current = self.current.done(now);
+        self
     }
 
     // Does an FDT wait?
@@ -336,9 +335,10 @@ impl Announcer {
         ensures { λ r. ⌜ r ≡ shares-fdt-of c self ⌝ }
     {
         let n = self.waiting;
+        let queue = self.queue;
         let mut j: usize = 0;
         while j < n {
-            let i = self.queue[j];
+            let i = queue[j];
             if shares(c, i.part) {
                 return true;
             }
@@ -347,8 +347,7 @@ impl Announcer {
         if !self.has_current {
             return false;
         }
-        let current = self.current;
-        shares(c, current.part)
+        shares(c, self.current.part)
     }
 
     // Is a part no good for an FDT: it ends past the store, or shares a byte with a held one?

@@ -247,68 +247,56 @@ impl Fdt {
     }
 
     // A number is reserved.
-    pub fn allocate_toi(self) -> Reserved
+    pub fn allocate_toi(mut self) -> Reserved
         requires { ⌜ Valid self ⌝ }
         ensures { λ r. ⌜ r ≡ reserved-of self ⌝ }
     {
-        let tois = self.tois;
-        let r = tois.allocate(true);
+        let r = self.tois.allocate(true);
         let answer = r.answer;
         let tois = r.allocator;
-        Reserved {
-            answer,
-            fdt: Fdt { tois, ..self },
-        }
+        self.tois = tois;
+        Reserved { answer, fdt: self }
     }
 
     // A loose reservation is let go.
-    pub fn release_toi(self, toi: u64) -> Released
+    pub fn release_toi(mut self, toi: u64) -> Released
         requires { ⌜ Valid self ⌝ }
         ensures { λ r. ⌜ r ≡ released-of toi self ⌝ }
     {
-        let tois = self.tois;
-        let r = tois.release(toi);
+        let r = self.tois.release(toi);
         let answer = r.answer;
         let tois = r.allocator;
-        Released {
-            answer,
-            fdt: Fdt { tois, ..self },
-        }
+        self.tois = tois;
+        Released { answer, fdt: self }
     }
 
     // A new object in slot k, at the queue's end.
-    fn put(self, k: usize, toi: u64, q: Request, z: Sizes) -> Fdt
+    fn put(mut self, k: usize, toi: u64, q: Request, z: Sizes) -> Fdt
         requires { ⌜ (k < 32) × (self .queued < 32) ⌝ }
         ensures { λ r. ⌜ r ≡ put-of self k toi q z ⌝ }
     {
-        let part = q.part;
-        let rule = q.rule;
-        let start = q.start;
-        let file = FileDesc::new(toi, q.priority, part, z, rule, start);
+        let file = FileDesc::new(toi, q.priority, q.part, z, q.rule, q.start);
         let mut slots = self.slots;
+        let n = self.queued;
+        let mut queue = self.queue;
+        queue[n] = k;
+        self.queue = queue;
+        self.queued = n + 1;
         slots[k] = Slot {
             holders: 1,
             listed: true,
             file,
         };
-        let n = self.queued;
-        let mut queue = self.queue;
-        queue[n] = k;
-        Fdt {
-            slots,
-            queue,
-            queued: n + 1,
-            ..self
-        }
+        self.slots = slots;
+        self
     }
 
     // An add that names a reservation.
-    fn add_named(self, q: Request, z: Sizes, toi: u64) -> Added
+    fn add_named(mut self, q: Request, z: Sizes, toi: u64) -> Added
         requires { ⌜ Valid self ⌝ }
         ensures { λ r. ⌜ r ≡ named-of self q z toi ⌝ }
     {
-        let tois = self.tois;
-        if !tois.is_loose(toi) {
+        if !self.tois.is_loose(toi) {
             return Added {
                 answer: Admission::Unknown,
                 fdt: self,
@@ -321,17 +309,17 @@ impl Fdt {
                 fdt: self,
             };
         };
-        let r = tois.claim(toi);
-        let tois = r.allocator;
-        let claimed = Fdt { tois, ..self };
+        let tois = self.tois.claim(toi).allocator;
+        self.tois = tois;
+        self = self.put(k, toi, q, z);
         Added {
             answer: Admission::Toi(toi),
-            fdt: claimed.put(k, toi, q, z),
+            fdt: self,
         }
     }
 
     // An add that names no reservation.
-    fn add_fresh(self, q: Request, z: Sizes) -> Added
+    fn add_fresh(mut self, q: Request, z: Sizes) -> Added
         requires { ⌜ Valid self ⌝ }
         ensures { λ r. ⌜ r ≡ fresh-of self q z ⌝ }
     {
@@ -342,20 +330,20 @@ impl Fdt {
                 fdt: self,
             };
         };
-        let tois = self.tois;
-        let r = tois.allocate(false);
+        let r = self.tois.allocate(false);
         let answer = r.answer;
-        let tois = r.allocator;
         let Given::Number(toi) = answer else {
             return Added {
                 answer: Admission::Full,
                 fdt: self,
             };
         };
-        let given = Fdt { tois, ..self };
+        let tois = r.allocator;
+        self.tois = tois;
+        self = self.put(k, toi, q, z);
         Added {
             answer: Admission::Toi(toi),
-            fdt: given.put(k, toi, q, z),
+            fdt: self,
         }
     }
 
@@ -371,25 +359,23 @@ impl Fdt {
             };
         }
         let own = q.own;
-        let part = q.part;
-        let set_up = self.settings.sizes;
-        let z = own_sizes(own, set_up);
-        if are_bad_blocks(z, part.size) {
+        let z = own_sizes(own, self.settings.sizes);
+        if are_bad_blocks(z, q.part.size) {
             return Added {
                 answer: Admission::Sizes,
                 fdt: self,
             };
         }
-        if self.is_bad_part(part) {
+        if self.is_bad_part(q.part) {
             return Added {
                 answer: Admission::Part,
                 fdt: self,
             };
         }
-        match named {
-            Named::Toi(toi) => self.add_named(q, z, toi),
-            Named::Anew => self.add_fresh(q, z),
-        }
+        let Named::Toi(toi) = named else {
+            return self.add_fresh(q, z);
+        };
+        self.add_named(q, z, toi)
     }
 
     // Is there a listed object with this number?
@@ -416,43 +402,36 @@ impl Fdt {
     }
 
     // The list lets go of slot k, which a session sends.
-    fn unlisted(self, k: usize) -> Fdt
+    fn unlisted(mut self, k: usize) -> Fdt
         requires { ⌜ Valid self × (k < 32) × (0 < slot-at (self .slots) k .holders) ⌝ }
         ensures { λ r. ⌜ r ≡ unlisted-of self k ⌝ }
     {
         let mut slots = self.slots;
-        let v = slots[k];
-        slots[k] = Slot {
-            holders: v.holders - 1,
-            listed: false,
-            ..v
-        };
-        Fdt { slots, ..self }
+        slots[k].holders -= 1;
+        slots[k].listed = false;
+        self.slots = slots;
+        self
     }
 
     // Slot k, which waits at place n of the queue, is free.
-    fn freed(self, toi: u64, k: usize, n: usize) -> Fdt
+    fn freed(mut self, toi: u64, k: usize, n: usize) -> Fdt
         requires { ⌜ Valid self × (k < 32) × (n < self .queued) ⌝ }
         ensures { λ r. ⌜ r ≡ freed-of self toi k n ⌝ }
     {
-        let tois = self.tois;
-        let r = tois.free(toi);
-        let tois = r.allocator;
         let mut slots = self.slots;
-        slots[k] = crate::slots::no_slot();
+        let tois = self.tois.free(toi).allocator;
+        self.tois = tois;
         let was = self.queue;
         let queue = queue_closed(was, n);
-        Fdt {
-            tois,
-            slots,
-            queue,
-            queued: self.queued - 1,
-            ..self
-        }
+        self.queue = queue;
+        self.queued -= 1;
+        slots[k] = crate::slots::no_slot();
+        self.slots = slots;
+        self
     }
 
     // The listed object with this number leaves the list; a session that sends it keeps it.
-    pub fn remove_object(self, toi: u64) -> Told
+    pub fn remove_object(mut self, toi: u64) -> Told
         requires { ⌜ Valid self ⌝ }
         ensures { λ r. ⌜ r ≡ removed-of toi self ⌝ }
     {
@@ -464,9 +443,10 @@ impl Fdt {
             };
         };
         if slots[k].file.life.transferring {
+            self = self.unlisted(k);
             return Told {
                 yes: true,
-                fdt: self.unlisted(k),
+                fdt: self,
             };
         }
         let queue = self.queue;
@@ -476,14 +456,15 @@ impl Fdt {
                 fdt: self,
             };
         };
+        self = self.freed(toi, k, n);
         Told {
             yes: true,
-            fdt: self.freed(toi, k, n),
+            fdt: self,
         }
     }
 
     // A listed object that is not in transfer may start anew.
-    pub fn trigger_transfer_at(self, toi: u64, start: Time) -> Told
+    pub fn trigger_transfer_at(mut self, toi: u64, start: Time) -> Told
         requires { ⌜ Valid self ⌝ }
         ensures { λ r. ⌜ r ≡ triggered-of toi start self ⌝ }
     {
@@ -494,58 +475,50 @@ impl Fdt {
                 fdt: self,
             };
         };
-        let v = slots[k];
+        let mut v = slots[k];
         if v.file.life.transferring {
             return Told {
                 yes: true,
                 fdt: self,
             };
         }
-        let was = v.file;
-        let file = was.reset_last_transfer(start);
-        slots[k] = Slot { file, ..v };
+        v.file = v.file.reset_last_transfer(start);
+        slots[k] = v;
+        self.slots = slots;
         Told {
             yes: true,
-            fdt: Fdt { slots, ..self },
+            fdt: self,
         }
     }
 
     // No object is added any more.
-    pub fn set_complete(self) -> Fdt
+    pub fn set_complete(mut self) -> Fdt
         ensures { λ r. ⌜ r ≡ completed-of self ⌝ }
     {
-        Fdt {
-            complete: true,
-            ..self
-        }
+        self.complete = true;
+        self
     }
 
     // Slot k, at place n of the queue, is taken by a session.
-    fn taken(self, now: u64, n: usize, k: usize) -> Fdt
+    fn taken(mut self, now: u64, n: usize, k: usize) -> Fdt
         requires { ⌜ Valid self × (k < 32) × (n < self .queued) ⌝ }
         ensures { λ r. ⌜ r ≡ taken-at now self n k ⌝ }
     {
         let mut slots = self.slots;
-        let v = slots[k];
-        let was = v.file;
-        let file = was.transfer_started(now);
-        slots[k] = Slot {
-            holders: v.holders + 1,
-            file,
-            ..v
-        };
-        let before = self.queue;
-        let queue = queue_closed(before, n);
-        Fdt {
-            slots,
-            queue,
-            queued: self.queued - 1,
-            ..self
-        }
+        let mut v = slots[k];
+        v.holders += 1;
+        v.file = v.file.transfer_started(now);
+        let was = self.queue;
+        let queue = queue_closed(was, n);
+        self.queue = queue;
+        self.queued -= 1;
+        slots[k] = v;
+        self.slots = slots;
+        self
     }
 
     // The first object in the queue that a session of this priority may start, taken.
-    pub fn get_next_file_transfer(self, priority: u32, now: u64) -> Taken
+    pub fn get_next_file_transfer(mut self, priority: u32, now: u64) -> Taken
         requires { ⌜ Valid self ⌝ }
         ensures { λ r. ⌜ r ≡ taken-of priority now self ⌝ }
     {
@@ -558,52 +531,43 @@ impl Fdt {
             };
         };
         let k = queue[n];
+        self = self.taken(now, n, k);
         Taken {
             answer: Place::At(k),
-            fdt: self.taken(now, n, k),
+            fdt: self,
         }
     }
 
     // Slot k, whose transfer has ended, goes to the queue's end.
-    fn back(self, now: u64, k: usize) -> Fdt
+    fn back(mut self, now: u64, k: usize) -> Fdt
         requires { ⌜ Valid self × (k < 32) × (self .queued < 32) × (0 < slot-at (self .slots) k .holders) ⌝ }
         ensures { λ r. ⌜ r ≡ back-of now self k ⌝ }
     {
         let mut slots = self.slots;
-        let sent = slots[k];
-        let was = sent.file;
-        let file = was.transfer_done(now);
-        slots[k] = Slot {
-            holders: sent.holders - 1,
-            file,
-            ..sent
-        };
+        let mut sent = slots[k];
+        sent.holders -= 1;
+        sent.file = sent.file.transfer_done(now);
         let end = self.queued;
         let mut queue = self.queue;
         queue[end] = k;
-        Fdt {
-            slots,
-            queue,
-            queued: end + 1,
-            ..self
-        }
+        self.queue = queue;
+        self.queued = end + 1;
+        slots[k] = sent;
+        self.slots = slots;
+        self
     }
 
     // Slot k is free, and its number too.
-    fn let_go(self, k: usize) -> Fdt
+    fn let_go(mut self, k: usize) -> Fdt
         requires { ⌜ Valid self × (k < 32) ⌝ }
         ensures { λ r. ⌜ r ≡ let-go-of self k ⌝ }
     {
         let mut slots = self.slots;
-        let tois = self.tois;
-        let r = tois.free(slots[k].file.toi);
-        let tois = r.allocator;
+        let tois = self.tois.free(slots[k].file.toi).allocator;
+        self.tois = tois;
         slots[k] = crate::slots::no_slot();
-        Fdt {
-            tois,
-            slots,
-            ..self
-        }
+        self.slots = slots;
+        self
     }
 
     // The session that sends slot k is done with it: it is sent again, or let go.
@@ -622,8 +586,7 @@ impl Fdt {
         if !v.listed {
             return self.let_go(k);
         }
-        let was = v.file;
-        if was.transfer_done(now).is_expired() {
+        if v.file.transfer_done(now).is_expired() {
             return self.let_go(k);
         }
         self.back(now, k)
@@ -647,32 +610,28 @@ impl Fdt {
     }
 
     // A new FDT side, after a publish: every listed object is published.
-    fn announced(self, announcer: Announcer) -> Fdt
+    fn announced(mut self, announcer: Announcer) -> Fdt
         ensures { λ r. ⌜ r ≡ announced-of self announcer ⌝ }
     {
         let was = self.slots;
         let slots = mark_published(was);
-        Fdt {
-            slots,
-            announcer,
-            ..self
-        }
+        self.slots = slots;
+        self.announcer = announcer;
+        self
     }
 
     // The part is queued as the next FDT, or refused by the first reason of 4, 5 and 7.
-    pub fn publish(self, now: u64, c: Part) -> Published
+    pub fn publish(mut self, now: u64, c: Part) -> Published
         requires { ⌜ Valid self ⌝ }
         ensures { λ r. ⌜ r ≡ publish-of now c self ⌝ }
     {
-        let z = self.settings.sizes;
-        if are_bad_blocks(z, c.size) {
+        if are_bad_blocks(self.settings.sizes, c.size) {
             return Published {
                 answer: Publication::Sizes,
                 fdt: self,
             };
         }
-        let a = self.announcer;
-        if a.bad_fdt_part(self.settings.fdt_store, c) {
+        if self.announcer.bad_fdt_part(self.settings.fdt_store, c) {
             return Published {
                 answer: Publication::Part,
                 fdt: self,
@@ -684,16 +643,17 @@ impl Fdt {
                 fdt: self,
             };
         }
-        if 4 <= a.waiting {
+        if 4 <= self.announcer.waiting {
             return Published {
                 answer: Publication::Full,
                 fdt: self,
             };
         }
-        let queued = a.published(now, c);
+        let queued = self.announcer.published(now, c);
+        self = self.announced(queued);
         Published {
             answer: Publication::Done,
-            fdt: self.announced(queued),
+            fdt: self,
         }
     }
 
@@ -705,12 +665,10 @@ impl Fdt {
         let Draft::Given(c) = draft else {
             return DraftTest::Good;
         };
-        let z = self.settings.sizes;
-        if are_bad_blocks(z, c.size) {
+        if are_bad_blocks(self.settings.sizes, c.size) {
             return DraftTest::Sizes;
         }
-        let a = self.announcer;
-        if a.bad_fdt_part(self.settings.fdt_store, c) {
+        if self.announcer.bad_fdt_part(self.settings.fdt_store, c) {
             return DraftTest::Part;
         }
         DraftTest::Good
@@ -720,39 +678,39 @@ impl Fdt {
     pub fn need_transfer_fdt(self) -> bool
         ensures { λ r. ⌜ r ≡ waits-of (self .announcer) ⌝ }
     {
-        let a = self.announcer;
-        a.need_transfer_fdt()
+        self.announcer.need_transfer_fdt()
     }
 
     // The next FDT, with a draft that is good or missing.
-    pub fn get_next_fdt_transfer(self, now: u64, draft: Draft) -> NextOf
+    pub fn get_next_fdt_transfer(mut self, now: u64, draft: Draft) -> NextOf
         requires { ⌜ Valid self ⌝ }
         ensures { λ r. ⌜ r ≡ next-fdt-of now draft self ⌝ }
     {
         let rule = fdt_rule(self.settings.from_start, self.settings.interval);
-        let a = self.announcer;
-        let n = a.get_next_fdt_transfer(rule, self.settings.validity, now, draft);
+        let n = self.announcer
+            .get_next_fdt_transfer(rule, self.settings.validity, now, draft);
         let announcer = n.announcer;
         if n.taken {
+            self = self.announced(announcer);
             return NextOf {
                 taken: true,
                 starts: n.starts,
-                fdt: self.announced(announcer),
+                fdt: self,
             };
         }
+        self.announcer = announcer;
         NextOf {
             taken: false,
             starts: n.starts,
-            fdt: Fdt { announcer, ..self },
+            fdt: self,
         }
     }
 
     // The FDT session is done with the current FDT.
-    pub fn fdt_transfer_done(self, now: u64) -> Fdt
+    pub fn fdt_transfer_done(mut self, now: u64) -> Fdt
         ensures { λ r. ⌜ r ≡ fdt-done-of now self ⌝ }
     {
-        let a = self.announcer;
-        let announcer = a.fdt_transfer_done(now);
-        Fdt { announcer, ..self }
+        self.announcer = self.announcer.fdt_transfer_done(now);
+        self
     }
 }

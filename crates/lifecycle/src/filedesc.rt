@@ -171,42 +171,40 @@ impl Rule {
         plain.with_carousel(carousel).with_target(target)
     }
 
-    fn with_carousel(self, c: Carousel) -> Rule
+    fn with_carousel(mut self, c: Carousel) -> Rule
         ensures { λ r. ⌜ r ≡ with-carousel self c ⌝ }
     {
         match c {
-            Carousel::Never => self,
-            Carousel::Delay(d) => Rule {
-                repeats: true,
-                interval: d,
-                ..self
-            },
-            Carousel::Interval(d) => Rule {
-                repeats: true,
-                from_start: true,
-                interval: d,
-                ..self
-            },
+            Carousel::Never => {}
+            Carousel::Delay(d) => {
+                self.repeats = true;
+                self.interval = d;
+            }
+            Carousel::Interval(d) => {
+                self.repeats = true;
+                self.from_start = true;
+                self.interval = d;
+            }
         }
+        self
     }
 
-    fn with_target(self, t: Target) -> Rule
+    fn with_target(mut self, t: Target) -> Rule
         ensures { λ r. ⌜ r ≡ with-target self t ⌝ }
     {
         match t {
-            Target::AtOnce => self,
-            Target::Within(d) => Rule {
-                paced: true,
-                target: d,
-                ..self
-            },
-            Target::By(at) => Rule {
-                paced: true,
-                by_time: true,
-                target: at,
-                ..self
-            },
+            Target::AtOnce => {}
+            Target::Within(d) => {
+                self.paced = true;
+                self.target = d;
+            }
+            Target::By(at) => {
+                self.paced = true;
+                self.by_time = true;
+                self.target = at;
+            }
         }
+        self
     }
 
     // May a transfer be cut short: allowed at once, or sent before?
@@ -315,40 +313,34 @@ impl FileDesc {
     }
 
     // A transfer starts.
-    pub fn transfer_started(self, now: u64) -> FileDesc
+    pub fn transfer_started(mut self, now: u64) -> FileDesc
         ensures { λ r. ⌜ r ≡ with-life self (started-life (self .rule) now (self .life)) ⌝ }
     {
-        let life = self.life.started(self.rule, now);
-        FileDesc { life, ..self }
+        self.life = self.life.started(self.rule, now);
+        self
     }
 
     // A transfer has ended.
-    pub fn transfer_done(self, now: u64) -> FileDesc
+    pub fn transfer_done(mut self, now: u64) -> FileDesc
         ensures { λ r. ⌜ r ≡ with-life self (done-life now (self .life)) ⌝ }
     {
-        let life = self.life.done(now);
-        FileDesc { life, ..self }
+        self.life = self.life.done(now);
+        self
     }
 
-    pub fn set_published(self) -> FileDesc
+    pub fn set_published(mut self) -> FileDesc
         ensures { λ r. ⌜ r ≡ with-life self (published-life (self .life)) ⌝ }
     {
-        let was = self.life;
-        FileDesc {
-            life: Life {
-                published: true,
-                ..was
-            },
-            ..self
-        }
+        self.life.published = true;
+        self
     }
 
     // Both last times are forgotten, and the named start is set if there is one.
-    pub fn reset_last_transfer(self, start: Time) -> FileDesc
+    pub fn reset_last_transfer(mut self, start: Time) -> FileDesc
         ensures { λ r. ⌜ r ≡ with-life self (reset-life start (self .life)) ⌝ }
     {
-        let life = self.life.reset(start);
-        FileDesc { life, ..self }
+        self.life = self.life.reset(start);
+        self
     }
 
     // Is the maximum of transfers reached, with no carousel?
@@ -395,62 +387,47 @@ impl FileDesc {
 
 impl Life {
     // A transfer starts.
-    pub fn started(self, r: Rule, now: u64) -> Life
+    pub fn started(mut self, r: Rule, now: u64) -> Life
         ensures { λ s. ⌜ s ≡ started-life r now self ⌝ }
     {
-        let begun = Life {
-            transferring: true,
-            last_start: Time {
-                known: true,
-                at: now,
-            },
-            ..self
-        };
+        self.transferring = true;
+        self.last_start.known = true;
+        self.last_start.at = now;
         if !r.repeats {
-            return begun;
+            return self;
         }
         if self.count == r.most {
-            return Life { count: 0, ..begun };
+            self.count = 0;
         }
-        begun
+        self
     }
 
     // A transfer has ended. The counts stop at their largest numbers.
-    pub fn done(self, now: u64) -> Life
+    pub fn done(mut self, now: u64) -> Life
         ensures { λ s. ⌜ s ≡ done-life now self ⌝ }
     {
-        Life {
-            transferring: false,
-            count: up32(self.count),
-            total: up64(self.total),
-            last_end: Time {
-                known: true,
-                at: now,
-            },
-            ..self
-        }
+        self.transferring = false;
+        self.count = up32(self.count);
+        self.total = up64(self.total);
+        self.last_end.known = true;
+        self.last_end.at = now;
+        self
     }
 
     // Both last times are forgotten, and the named start is set if there is one.
-    fn reset(self, start: Time) -> Life
+    fn reset(mut self, start: Time) -> Life
         ensures { λ s. ⌜ s ≡ reset-life start self ⌝ }
     {
         let none = Time {
             known: false,
             at: 0,
         };
-        let cleared = Life {
-            last_start: none,
-            last_end: none,
-            ..self
-        };
+        self.last_start = none;
+        self.last_end = none;
         if start.known {
-            return Life {
-                named_start: start,
-                ..cleared
-            };
+            self.named_start = start;
         }
-        cleared
+        self
     }
 }
 

@@ -56,8 +56,7 @@ pub fn free_slot(slots: [Slot; 32]) -> Place
 {
     let mut i: usize = 0;
     while i < 32 {
-        let s = slots[i];
-        if is_free_slot(s) {
+        if is_free_slot(slots[i]) {
             return Place::At(i);
         }
         i += 1;
@@ -81,8 +80,7 @@ pub fn listed_slot(slots: [Slot; 32], toi: u64) -> Place
 {
     let mut i: usize = 0;
     while i < 32 {
-        let s = slots[i];
-        if is_listed_slot(s, toi) {
+        if is_listed_slot(slots[i], toi) {
             return Place::At(i);
         }
         i += 1;
@@ -106,8 +104,7 @@ pub fn any_shares(slots: [Slot; 32], c: Part) -> bool
 {
     let mut i: usize = 0;
     while i < 32 {
-        let s = slots[i];
-        if has_byte_of(s, c) {
+        if has_byte_of(slots[i], c) {
             return true;
         }
         i += 1;
@@ -116,14 +113,14 @@ pub fn any_shares(slots: [Slot; 32], c: Part) -> bool
 }
 
 // A listed object is published from now on.
-fn published(s: Slot) -> Slot
+fn published(mut s: Slot) -> Slot
     ensures { λ r. ⌜ r ≡ published-slot s ⌝ }
 {
     if !s.listed {
         return s;
     }
-    let file = s.file.set_published();
-    Slot { file, ..s }
+    s.file = s.file.set_published();
+    s
 }
 
 // Every listed object is published.
@@ -133,9 +130,7 @@ pub fn mark_published(slots: [Slot; 32]) -> [Slot; 32]
     let mut out = slots;
     let mut k: usize = 0;
     while k < 32 {
-        let s = out[k];
-        let t = published(s);
-        out[k] = t;
+        out[k] = published(out[k]);
         k += 1;
     }
     out

@@ -21,11 +21,11 @@ loop-holds c =
     let g : length (c .args .t1) ≡ 32 = c .good .0 .1 .0 .1 in
     (omega arith, search needs, ap (any (holds-byte (c .args .c))) (sym (take-all 32 (c .args .t1) (omega arith))))
 
-mul-s : tie.Need-mul-s Inv-loop μ-loop
-mul-s c = search needs
+mul-has-byte-of : tie.Need-mul-has-byte-of Inv-loop μ-loop
+mul-has-byte-of c = search needs
 
-array-copy-out-s : tie.Need-array-copy-out-s Inv-loop μ-loop
-array-copy-out-s c = search needs
+array-copy-out-has-byte-of : tie.Need-array-copy-out-has-byte-of Inv-loop μ-loop
+array-copy-out-has-byte-of c = search needs
 
 has-byte-of-requires : tie.Need-has-byte-of-requires Inv-loop μ-loop
 has-byte-of-requires c κs = search needs
@@ -58,8 +58,8 @@ any-shares-spec =
     Inv-loop
     μ-loop
     loop-holds
-    mul-s
-    array-copy-out-s
+    mul-has-byte-of
+    array-copy-out-has-byte-of
     has-byte-of-requires
     returns
     add-i

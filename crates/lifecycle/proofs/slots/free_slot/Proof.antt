@@ -22,11 +22,11 @@ loop-holds c =
     let long : 32 ≤ length (c .args .t1) = omega arith in
     (long, search needs, place-start is-free 32 (c .args .t1) long ∙ ap (place is-free) (take-all 32 (c .args .t1) (omega arith)))
 
-mul-s : tie.Need-mul-s Inv-loop μ-loop
-mul-s c = search needs
+mul-is-free-slot : tie.Need-mul-is-free-slot Inv-loop μ-loop
+mul-is-free-slot c = search needs
 
-array-copy-out-s : tie.Need-array-copy-out-s Inv-loop μ-loop
-array-copy-out-s c = search needs
+array-copy-out-is-free-slot : tie.Need-array-copy-out-is-free-slot Inv-loop μ-loop
+array-copy-out-is-free-slot c = search needs
 
 is-free-slot-requires : tie.Need-is-free-slot-requires Inv-loop μ-loop
 is-free-slot-requires c κs = search needs
@@ -59,8 +59,8 @@ free-slot-spec =
     Inv-loop
     μ-loop
     loop-holds
-    mul-s
-    array-copy-out-s
+    mul-is-free-slot
+    array-copy-out-is-free-slot
     is-free-slot-requires
     returns
     add-i

@@ -22,11 +22,11 @@ loop-holds c =
     let long : 32 ≤ length (c .args .t1) = omega arith in
     (long, search needs, place-start (is-listed-as (c .args .toi)) 32 (c .args .t1) long ∙ ap (place (is-listed-as (c .args .toi))) (take-all 32 (c .args .t1) (omega arith)))
 
-mul-s : tie.Need-mul-s Inv-loop μ-loop
-mul-s c = search needs
+mul-is-listed-slot : tie.Need-mul-is-listed-slot Inv-loop μ-loop
+mul-is-listed-slot c = search needs
 
-array-copy-out-s : tie.Need-array-copy-out-s Inv-loop μ-loop
-array-copy-out-s c = search needs
+array-copy-out-is-listed-slot : tie.Need-array-copy-out-is-listed-slot Inv-loop μ-loop
+array-copy-out-is-listed-slot c = search needs
 
 is-listed-slot-requires : tie.Need-is-listed-slot-requires Inv-loop μ-loop
 is-listed-slot-requires c κs = search needs
@@ -59,8 +59,8 @@ listed-slot-spec =
     Inv-loop
     μ-loop
     loop-holds
-    mul-s
-    array-copy-out-s
+    mul-is-listed-slot
+    array-copy-out-is-listed-slot
     is-listed-slot-requires
     returns
     add-i

@@ -17,11 +17,11 @@ abbrev μ-loop : tie.MeasureT-loop
 loop-holds : tie.Need-loop-holds Inv-loop μ-loop
 loop-holds c = (search needs, c .good .0 .1 .0 .1, refl)
 
-mul-s : tie.Need-mul-s Inv-loop μ-loop
-mul-s c = search needs
+mul-published : tie.Need-mul-published Inv-loop μ-loop
+mul-published c = search needs
 
-array-copy-out-s : tie.Need-array-copy-out-s Inv-loop μ-loop
-array-copy-out-s c = search needs
+array-copy-out-published : tie.Need-array-copy-out-published Inv-loop μ-loop
+array-copy-out-published c = search needs
 
 published-requires : tie.Need-published-requires Inv-loop μ-loop
 published-requires c κs = search needs
@@ -55,8 +55,8 @@ mark-published-spec =
     Inv-loop
     μ-loop
     loop-holds
-    mul-s
-    array-copy-out-s
+    mul-published
+    array-copy-out-published
     published-requires
     mul-out
     array-set-from-out

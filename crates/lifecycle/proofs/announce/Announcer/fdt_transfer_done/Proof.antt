@@ -13,7 +13,7 @@ done-requires c κs = search needs
 
 returns-2 : tie.Need-returns-2
 unfolding done-of
-returns-2 c = rw (c .before .before .done .ensures, not-false (c .before .before .before .before .before .before .args .self .«has_current») (c .before .before .before .before .if1 .left))
+returns-2 c = rw (c .done .ensures, not-false (c .before .before .before .args .self .«has_current») (c .before .if1 .left))
 
 pub fdt-transfer-done-spec : {M : Type 1} → statement M
 fdt-transfer-done-spec = tie.close (tie.spec returns done-requires returns-2)

@@ -11,19 +11,19 @@ use Rattle.lifecycle.proofs.announce.Announcer.shares_fdt.Statement.{st
 use Rattle.lifecycle.proofs.announce.Announcer.shares_fdt.Tie as tie
 
 abbrev Inv-loop : tie.InvT-loop
-Inv-loop c self n j₀ j = (n ≤ length (self .queue)) × (j ≤ n) × (any (held-of c) (waiting-of self) ≡ any (held-of c) (drop j (take n (self .queue))))
+Inv-loop self c n queue j₀ j = (n ≤ length queue) × (j ≤ n) × (any (held-of c) (waiting-of self) ≡ any (held-of c) (drop j (take n queue)))
 
 abbrev μ-loop : tie.MeasureT-loop
-μ-loop c self n j₀ j = n - j
+μ-loop self c n queue j₀ j = n - j
 
 loop-holds : tie.Need-loop-holds Inv-loop μ-loop
-loop-holds c = (let s = c .pre in let g = s .sized in let r = s .room in omega arith, search needs, refl)
+loop-holds c = (let s = c .before .pre in let g = s .sized in let r = s .room in omega arith, search needs, refl)
 
 mul-i : tie.Need-mul-i Inv-loop μ-loop
 mul-i c = search needs
 
-element-copy-out-i : tie.Need-element-copy-out-i Inv-loop μ-loop
-element-copy-out-i c = search needs
+array-copy-out-i : tie.Need-array-copy-out-i Inv-loop μ-loop
+array-copy-out-i c = search needs
 
 shares-requires : tie.Need-shares-requires Inv-loop μ-loop
 shares-requires c κs = search needs
@@ -31,8 +31,8 @@ shares-requires c κs = search needs
 returns : tie.Need-returns Inv-loop μ-loop
 unfolding shares-fdt-of
 returns c = let l = c .before .before .before .before .loop in
-    let a = c .before .before .before .before .before .args .t1 in
-    rw (l .inv .2 ∙ any-hit (held-of (c .before .before .before .before .before .args .c)) (a .waiting) (a .queue) (l .inv .0) (l .j) no-instance (omega arith) (sym (c .before .shares .ensures) ∙ c .if1 .taken))
+    let a = c .before .before .before .before .before .before .args .self in
+    rw (l .inv .2 ∙ any-hit (held-of (c .before .before .before .before .before .before .args .c)) (a .waiting) (a .queue) (l .inv .0) (l .j) no-instance (omega arith) (sym (c .before .shares .ensures) ∙ c .if1 .taken))
 
 add-j : tie.Need-add-j Inv-loop μ-loop
 add-j c = search needs
@@ -42,14 +42,14 @@ loop-less c = search needs
 
 loop-again : tie.Need-loop-again Inv-loop μ-loop
 loop-again c = let l = c .before .before .before .before .loop in
-    let a = c .before .before .before .before .before .args .t1 in
-    (l .inv .0, search needs, l .inv .2 ∙ any-miss (held-of (c .before .before .before .before .before .args .c)) (a .waiting) (a .queue) (l .inv .0) (l .j) no-instance (omega arith) (sym (c .before .shares .ensures) ∙ c .if1 .left))
+    let a = c .before .before .before .before .before .before .args .self in
+    (l .inv .0, search needs, l .inv .2 ∙ any-miss (held-of (c .before .before .before .before .before .before .args .c)) (a .waiting) (a .queue) (l .inv .0) (l .j) no-instance (omega arith) (sym (c .before .shares .ensures) ∙ c .if1 .left))
 
 returns-2 : tie.Need-returns-2 Inv-loop μ-loop
 unfolding shares-fdt-of
-returns-2 c = let l = c .before .before .loop in
-    let a = c .before .before .before .args .t1 in
-    rw (l .inv .2 ∙ any-end (held-of (c .before .before .before .args .c)) (a .waiting) (a .queue) (l .inv .0) (l .j) (omega arith), not-true (a .«has_current») (c .if2 .taken))
+returns-2 c = let l = c .before .before .before .loop in
+    let a = c .before .before .before .before .before .args .self in
+    rw (l .inv .2 ∙ any-end (held-of (c .before .before .before .before .before .args .c)) (a .waiting) (a .queue) (l .inv .0) (l .j) (omega arith), not-true (a .«has_current») (c .if2 .taken))
 
 shares-requires-2 : tie.Need-shares-requires-2 Inv-loop μ-loop
 shares-requires-2 c κs = search needs
@@ -57,8 +57,8 @@ shares-requires-2 c κs = search needs
 returns-3 : tie.Need-returns-3 Inv-loop μ-loop
 unfolding shares-fdt-of
 returns-3 c = let l = c .before .before .before .before .loop in
-    let a = c .before .before .before .before .before .args .t1 in
-    rw (c .shares2 .ensures, l .inv .2 ∙ any-end (held-of (c .before .before .before .before .before .args .c)) (a .waiting) (a .queue) (l .inv .0) (l .j) (omega arith), not-false (a .«has_current») (c .before .before .if2 .left))
+    let a = c .before .before .before .before .before .before .args .self in
+    rw (c .shares2 .ensures, l .inv .2 ∙ any-end (held-of (c .before .before .before .before .before .before .args .c)) (a .waiting) (a .queue) (l .inv .0) (l .j) (omega arith), not-false (a .«has_current») (c .before .if2 .left))
 
 pub shares-fdt-spec : {M : Type 1} → statement M
 shares-fdt-spec =
@@ -68,7 +68,7 @@ shares-fdt-spec =
     μ-loop
     loop-holds
     mul-i
-    element-copy-out-i
+    array-copy-out-i
     shares-requires
     returns
     add-j

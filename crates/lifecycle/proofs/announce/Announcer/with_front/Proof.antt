@@ -14,13 +14,13 @@ array-copy-out-current c = search needs
 moved-up-requires : tie.Need-moved-up-requires
 moved-up-requires c κs = search needs
 
-sub-t10 : tie.Need-sub-t10
-sub-t10 c = search needs
+sub-self : tie.Need-sub-self
+sub-self c = search needs
 
 returns-2 : tie.Need-returns-2
 unfolding front-of
-returns-2 c = rw (c .before .before .moved-up .ensures, ne-eqb (c .before .before .before .before .before .before .before .args .self .waiting) 0 (c .before .before .before .before .before .if1 .left))
+returns-2 c = rw (c .before .moved-up .ensures, ne-eqb (c .before .before .before .before .before .before .args .self .waiting) 0 (c .before .before .before .before .if1 .left))
 
 pub with-front-spec : {M : Type 1} → statement M
 with-front-spec =
-    tie.close (tie.spec returns array-copy-out-current moved-up-requires sub-t10 returns-2)
+    tie.close (tie.spec returns array-copy-out-current moved-up-requires sub-self returns-2)

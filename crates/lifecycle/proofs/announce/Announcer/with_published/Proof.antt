@@ -6,17 +6,17 @@ use Rattle.lifecycle.proofs.announce.Announcer.with_published.Tie as ti
 new-requires : tie.Need-new-requires
 new-requires c κs = search needs
 
-mul-i : tie.Need-mul-i
-mul-i c = search needs
+mul-queue : tie.Need-mul-queue
+mul-queue c = search needs
 
-element-set-from-i : tie.Need-element-set-from-i
-element-set-from-i c = search needs
+array-set-from-queue : tie.Need-array-set-from-queue
+array-set-from-queue c = search needs
 
-add-t10 : tie.Need-add-t10
-add-t10 c = search needs
+add-self : tie.Need-add-self
+add-self c = search needs
 
-add-t7 : tie.Need-add-t7
-add-t7 c = search needs
+add-self-2 : tie.Need-add-self-2
+add-self-2 c = search needs
 
 returns : tie.Need-returns
 unfolding queued-of
@@ -24,4 +24,4 @@ returns c = rw (c .before .before .before .new .ensures)
 
 pub with-published-spec : {M : Type 1} → statement M
 with-published-spec =
-    tie.close (tie.spec new-requires mul-i element-set-from-i add-t10 add-t7 returns)
+    tie.close (tie.spec new-requires mul-queue array-set-from-queue add-self add-self-2 returns)

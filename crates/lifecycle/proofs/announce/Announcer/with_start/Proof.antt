@@ -13,14 +13,14 @@ may-start-now-requires c κs = search needs
 
 returns-2 : tie.Need-returns-2
 unfolding start-of
-returns-2 c = rw (← c .before .may-start-now .ensures, not-false (c .before .before .before .before .before .args .self .«has_current») (c .before .before .before .if1 .left), not-true (c .before .may-start-now .result) (c .if2 .taken))
+returns-2 c = rw (← c .before .may-start-now .ensures, not-false (c .before .before .before .before .args .self .«has_current») (c .before .before .if1 .left), not-true (c .before .may-start-now .result) (c .if2 .taken))
 
 started-requires : tie.Need-started-requires
 started-requires c κs = search needs
 
 returns-3 : tie.Need-returns-3
 unfolding start-of
-returns-3 c = rw (c .before .before .started .ensures, ← c .before .before .before .before .may-start-now .ensures, not-false (c .before .before .before .before .before .before .before .before .args .self .«has_current») (c .before .before .before .before .before .before .if1 .left), not-false (c .before .before .before .before .may-start-now .result) (c .before .before .before .if2 .left))
+returns-3 c = rw (c .started .ensures, ← c .before .before .may-start-now .ensures, not-false (c .before .before .before .before .before .args .self .«has_current») (c .before .before .before .if1 .left), not-false (c .before .before .may-start-now .result) (c .before .if2 .left))
 
 pub with-start-spec : {M : Type 1} → statement M
 with-start-spec =

@@ -6,7 +6,7 @@ done-requires : tie.Need-done-requires
 done-requires c κs = search needs
 
 returns : tie.Need-returns
-returns c = rw (c .before .done .ensures)
+returns c = rw (c .done .ensures)
 
 pub done-spec : {M : Type 1} → statement M
 done-spec = tie.close (tie.spec done-requires returns)

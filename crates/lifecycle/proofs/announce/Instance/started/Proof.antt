@@ -6,7 +6,7 @@ started-requires : tie.Need-started-requires
 started-requires c κs = search needs
 
 returns : tie.Need-returns
-returns c = rw (c .before .started .ensures)
+returns c = rw (c .started .ensures)
 
 pub started-spec : {M : Type 1} → statement M
 started-spec = tie.close (tie.spec started-requires returns)

@@ -9,7 +9,7 @@ is-loose-requires : tie.Need-is-loose-requires
 is-loose-requires c κs = search needs
 
 returns : tie.Need-returns
-returns c = let a = c .before .before .before .args in sym (named-unknown (a .self) (a .q) (a .z) (a .toi) (sym (c .before .is-loose .ensures) ∙ not-true _ (c .if1 .taken)))
+returns c = let a = c .before .before .args in sym (named-unknown (a .self) (a .q) (a .z) (a .toi) (sym (c .before .is-loose .ensures) ∙ not-true _ (c .if1 .taken)))
 
 free-slot-requires : tie.Need-free-slot-requires
 free-slot-requires c κs = search needs
@@ -21,7 +21,7 @@ enum-told : tie.Need-enum-told
 enum-told c = search needs
 
 returns-2 : tie.Need-returns-2
-returns-2 c = let a = c .before .before .before .before .before .before .before .args in
+returns-2 c = let a = c .before .before .before .before .before .before .args in
     let h = sym (c .before .before .before .before .before .is-loose .ensures) ∙ not-false _ (c .before .before .before .before .if1 .left) in
     sym (named-none (a .self) (a .q) (a .z) (a .toi) h (said-none (c .before .before .free-slot .ensures) (c .enum-told .given .1)))
 
@@ -29,12 +29,12 @@ claim-requires : tie.Need-claim-requires
 claim-requires c κs = search needs
 
 put-requires : tie.Need-put-requires
-put-requires c κs = let s = c .before .before .before .before .before .before .before .before .before .before .before .before .before .before in free-found (s .args .self) (s .pre) _ (said-some (c .before .before .before .before .before .before .before .before .before .free-slot .ensures) (c .before .before .before .before .before .before .before .k .given .1))
+put-requires c κs = let s = c .before .before .before .before .before .before .before .before .before in free-found (s .args .self) (s .pre) _ (said-some (c .before .before .before .before .before .free-slot .ensures) (c .before .before .before .k .given .1))
 
 returns-3 : tie.Need-returns-3
-returns-3 c = let a = c .before .before .before .before .before .before .before .before .before .before .before .before .before .before .before .args in
-    let h = sym (c .before .before .before .before .before .before .before .before .before .before .before .before .before .is-loose .ensures) ∙ not-false _ (c .before .before .before .before .before .before .before .before .before .before .before .before .if1 .left) in
-    rw (c .put .ensures, c .before .before .before .before .before .before .claim .ensures .exact) (sym (named-some (a .self) (a .q) (a .z) (a .toi) h _ (said-some (c .before .before .before .before .before .before .before .before .before .before .free-slot .ensures) (c .before .before .before .before .before .before .before .before .k .given .1))))
+returns-3 c = let a = c .before .before .before .before .before .before .before .before .before .before .args in
+    let h = sym (c .before .before .before .before .before .before .before .before .before .is-loose .ensures) ∙ not-false _ (c .before .before .before .before .before .before .before .before .if1 .left) in
+    rw (c .put .ensures, c .before .before .claim .ensures .exact) (sym (named-some (a .self) (a .q) (a .z) (a .toi) h _ (said-some (c .before .before .before .before .before .before .free-slot .ensures) (c .before .before .before .before .k .given .1))))
 
 pub add-named-spec : {M : Type 1} → statement M
 add-named-spec =

@@ -16,23 +16,20 @@ are-bad-blocks-requires : tie.Need-are-bad-blocks-requires
 are-bad-blocks-requires c κs = search needs
 
 returns-2 : tie.Need-returns-2
-returns-2 c = let a = c .before .before .before .before .before .before .args in
+returns-2 c = let a = c .before .before .before .before .args in
     let b = sym (ap (λ z. bad-blocks z (a .q .part .size)) (c .before .before .own-sizes .ensures)) ∙ sym (c .before .are-bad-blocks .ensures) ∙ c .if2 .taken in
-    sym (added-sizes (a .self) (a .q) (a .named) (c .before .before .before .before .before .if1 .left) b)
+    sym (added-sizes (a .self) (a .q) (a .named) (c .before .before .before .if1 .left) b)
 
 is-bad-part-requires : tie.Need-is-bad-part-requires
 is-bad-part-requires c κs = search needs
 
 returns-3 : tie.Need-returns-3
-returns-3 c = let a = c .before .before .before .before .before .before .before .before .args in
+returns-3 c = let a = c .before .before .before .before .before .before .args in
     let b = sym (ap (λ z. bad-blocks z (a .q .part .size)) (c .before .before .before .before .own-sizes .ensures)) ∙ sym (c .before .before .before .are-bad-blocks .ensures) ∙ c .before .before .if2 .left in
-    sym (added-part (a .self) (a .q) (a .named) (c .before .before .before .before .before .before .before .if1 .left) b (sym (c .before .is-bad-part .ensures) ∙ c .if3 .taken))
+    sym (added-part (a .self) (a .q) (a .named) (c .before .before .before .before .before .if1 .left) b (sym (c .before .is-bad-part .ensures) ∙ c .if3 .taken))
 
 enum-known-named : tie.Need-enum-known-named
 enum-known-named c = search needs
-
-add-named-requires : tie.Need-add-named-requires
-add-named-requires c κs = search needs
 
 enum-told : tie.Need-enum-told
 enum-told c = search needs
@@ -42,17 +39,20 @@ add-fresh-requires c κs = search needs
 
 returns-4 : tie.Need-returns-4
 unfolding numbered-of
-returns-4 c = let a = c .before .before .before .before .before .before .before .before .before .before .before .before .args in
-    let b = sym (ap (λ z. bad-blocks z (a .q .part .size)) (c .before .before .before .before .before .before .before .before .own-sizes .ensures)) ∙ sym (c .before .before .before .before .before .before .before .are-bad-blocks .ensures) ∙ c .before .before .before .before .before .before .if2 .left in
-    let n = added-numbered (a .self) (a .q) (a .named) (c .before .before .before .before .before .before .before .before .before .before .before .if1 .left) b (sym (c .before .before .before .before .before .is-bad-part .ensures) ∙ c .before .before .before .before .if3 .left) in
-    rw (c .add-named .ensures, c .before .before .before .before .before .before .before .before .own-sizes .ensures) (sym (n ∙ ap (numbered-of (a .self) (a .q) _) (c .before .before .named .given .1)))
+returns-4 c = let a = c .before .before .before .before .before .before .before .before .before .args in
+    let b = sym (ap (λ z. bad-blocks z (a .q .part .size)) (c .before .before .before .before .before .before .before .own-sizes .ensures)) ∙ sym (c .before .before .before .before .before .before .are-bad-blocks .ensures) ∙ c .before .before .before .before .before .if2 .left in
+    let n = added-numbered (a .self) (a .q) (a .named) (c .before .before .before .before .before .before .before .before .if1 .left) b (sym (c .before .before .before .before .is-bad-part .ensures) ∙ c .before .before .before .if3 .left) in
+    rw (c .add-fresh .ensures, c .before .before .before .before .before .before .before .own-sizes .ensures) (sym (n ∙ ap (numbered-of (a .self) (a .q) _) (c .before .enum-told .given .1)))
+
+add-named-requires : tie.Need-add-named-requires
+add-named-requires c κs = search needs
 
 returns-5 : tie.Need-returns-5
 unfolding numbered-of
-returns-5 c = let a = c .before .before .before .before .before .before .before .before .before .before .before .args in
-    let b = sym (ap (λ z. bad-blocks z (a .q .part .size)) (c .before .before .before .before .before .before .before .own-sizes .ensures)) ∙ sym (c .before .before .before .before .before .before .are-bad-blocks .ensures) ∙ c .before .before .before .before .before .if2 .left in
-    let n = added-numbered (a .self) (a .q) (a .named) (c .before .before .before .before .before .before .before .before .before .before .if1 .left) b (sym (c .before .before .before .before .is-bad-part .ensures) ∙ c .before .before .before .if3 .left) in
-    rw (c .add-fresh .ensures, c .before .before .before .before .before .before .before .own-sizes .ensures) (sym (n ∙ ap (numbered-of (a .self) (a .q) _) (c .before .enum-told .given .1)))
+returns-5 c = let a = c .before .before .before .before .before .before .before .before .before .before .args in
+    let b = sym (ap (λ z. bad-blocks z (a .q .part .size)) (c .before .before .before .before .before .before .before .before .own-sizes .ensures)) ∙ sym (c .before .before .before .before .before .before .before .are-bad-blocks .ensures) ∙ c .before .before .before .before .before .before .if2 .left in
+    let n = added-numbered (a .self) (a .q) (a .named) (c .before .before .before .before .before .before .before .before .before .if1 .left) b (sym (c .before .before .before .before .before .is-bad-part .ensures) ∙ c .before .before .before .before .if3 .left) in
+    rw (c .add-named .ensures, c .before .before .before .before .before .before .before .before .own-sizes .ensures) (sym (n ∙ ap (numbered-of (a .self) (a .q) _) (c .before .before .named .given .1)))
 
 pub add-object-spec : {M : Type 1} → statement M
 add-object-spec =
@@ -65,8 +65,8 @@ add-object-spec =
     is-bad-part-requires
     returns-3
     enum-known-named
-    add-named-requires
     enum-told
     add-fresh-requires
     returns-4
+    add-named-requires
     returns-5)

@@ -8,7 +8,7 @@ allocate-requires c κs = search needs
 
 returns : tie.Need-returns
 unfolding reserved-of
-returns c = rw (c .before .before .before .before .before .allocate .ensures .exact)
+returns c = rw (c .before .allocate .ensures .exact)
 
 pub allocate-toi-spec : {M : Type 1} → statement M
 allocate-toi-spec = tie.close (tie.spec allocate-requires returns)

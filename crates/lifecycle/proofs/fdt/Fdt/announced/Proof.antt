@@ -6,7 +6,7 @@ mark-published-requires : tie.Need-mark-published-requires
 mark-published-requires c κs = search needs
 
 returns : tie.Need-returns
-returns c = rw (c .before .before .before .mark-published .ensures)
+returns c = rw (c .mark-published .ensures)
 
 pub announced-spec : {M : Type 1} → statement M
 announced-spec = tie.close (tie.spec mark-published-requires returns)

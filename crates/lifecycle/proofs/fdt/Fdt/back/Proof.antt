@@ -9,17 +9,11 @@ mul-sent c = search needs
 array-copy-out-sent : tie.Need-array-copy-out-sent
 array-copy-out-sent c = search needs
 
+sub-sent : tie.Need-sub-sent
+sub-sent c = search needs
+
 transfer-done-requires : tie.Need-transfer-done-requires
 transfer-done-requires c κs = search needs
-
-sub-t14 : tie.Need-sub-t14
-sub-t14 c = search needs
-
-mul-slots : tie.Need-mul-slots
-mul-slots c = search needs
-
-array-set-from-slots : tie.Need-array-set-from-slots
-array-set-from-slots c = search needs
 
 mul-queue : tie.Need-mul-queue
 mul-queue c = search needs
@@ -27,12 +21,18 @@ mul-queue c = search needs
 array-write-queue : tie.Need-array-write-queue
 array-write-queue c = search needs
 
-add-t10 : tie.Need-add-t10
-add-t10 c = search needs
+add-self : tie.Need-add-self
+add-self c = search needs
+
+mul-slots : tie.Need-mul-slots
+mul-slots c = search needs
+
+array-set-from-slots : tie.Need-array-set-from-slots
+array-set-from-slots c = search needs
 
 returns : tie.Need-returns
 unfolding back-of
-returns c = rw (c .before .before .before .before .before .transfer-done .ensures)
+returns c = rw (c .before .transfer-done .ensures)
 
 pub back-spec : {M : Type 1} → statement M
 back-spec =
@@ -40,11 +40,11 @@ back-spec =
     (tie.spec
     mul-sent
     array-copy-out-sent
+    sub-sent
     transfer-done-requires
-    sub-t14
-    mul-slots
-    array-set-from-slots
     mul-queue
     array-write-queue
-    add-t10
+    add-self
+    mul-slots
+    array-set-from-slots
     returns)

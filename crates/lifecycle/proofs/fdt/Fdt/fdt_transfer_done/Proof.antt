@@ -8,7 +8,7 @@ fdt-transfer-done-requires c κs = search needs
 
 returns : tie.Need-returns
 unfolding fdt-done-of
-returns c = rw (c .before .before .before .before .fdt-transfer-done .ensures)
+returns c = rw (c .fdt-transfer-done .ensures)
 
 pub fdt-transfer-done-spec : {M : Type 1} → statement M
 fdt-transfer-done-spec = tie.close (tie.spec fdt-transfer-done-requires returns)

@@ -6,6 +6,12 @@ use Rattle.lifecycle.proofs.fdt.Fdt.freed.Tie as tie
 free-requires : tie.Need-free-requires
 free-requires c κs = search needs
 
+queue-closed-requires : tie.Need-queue-closed-requires
+queue-closed-requires c κs = search needs
+
+sub-self : tie.Need-sub-self
+sub-self c = search needs
+
 no-slot-requires : tie.Need-no-slot-requires
 no-slot-requires c κs = search needs
 
@@ -15,24 +21,18 @@ mul-slots c = search needs
 array-set-from-slots : tie.Need-array-set-from-slots
 array-set-from-slots c = search needs
 
-queue-closed-requires : tie.Need-queue-closed-requires
-queue-closed-requires c κs = search needs
-
-sub-t12 : tie.Need-sub-t12
-sub-t12 c = search needs
-
 returns : tie.Need-returns
 unfolding freed-of
-returns c = rw (c .before .before .before .queue-closed .ensures, c .before .before .before .before .before .no-slot .ensures, c .before .before .before .before .before .before .before .before .free .ensures .exact)
+returns c = rw (c .before .before .queue-closed .ensures, c .no-slot .ensures, c .before .before .before .before .before .free .ensures .exact)
 
 pub freed-spec : {M : Type 1} → statement M
 freed-spec =
     tie.close
     (tie.spec
     free-requires
+    queue-closed-requires
+    sub-self
     no-slot-requires
     mul-slots
     array-set-from-slots
-    queue-closed-requires
-    sub-t12
     returns)

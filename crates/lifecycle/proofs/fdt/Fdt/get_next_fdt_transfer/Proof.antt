@@ -17,15 +17,15 @@ announced-requires c κs = search needs
 
 returns : tie.Need-returns
 returns c =
-    let s = c .before .before .before .before .before .before .args in
+    let s = c .before .before .before .before .before .args in
     let n = c .before .before .before .get-next-fdt-transfer .result in
     ap (λ (g : Fdt). record { taken = true; starts = n .starts; fdt = g }) (c .announced .ensures)
-    ∙ next-taken-by (s .now) (s .draft) (s .self) (c .before .before .before .before .before .fdt-rule .result) n (c .before .before .before .before .before .fdt-rule .ensures) (c .before .before .before .get-next-fdt-transfer .ensures) (c .before .if1 .taken)
+    ∙ next-taken-by (s .now) (s .draft) (s .self) (c .before .before .before .before .fdt-rule .result) n (c .before .before .before .before .fdt-rule .ensures) (c .before .before .before .get-next-fdt-transfer .ensures) (c .before .if1 .taken)
 
 returns-2 : tie.Need-returns-2
 returns-2 c =
-    let s = c .before .before .before .before .before .before .before .before .before .args in
-    next-left-by (s .now) (s .draft) (s .self) (c .before .before .before .before .before .before .before .before .fdt-rule .result) (c .before .before .before .before .before .before .get-next-fdt-transfer .result) (c .before .before .before .before .before .before .before .before .fdt-rule .ensures) (c .before .before .before .before .before .before .get-next-fdt-transfer .ensures) (c .before .before .before .before .if1 .left)
+    let s = c .before .before .before .before .args in
+    next-left-by (s .now) (s .draft) (s .self) (c .before .before .before .fdt-rule .result) (c .before .before .get-next-fdt-transfer .result) (c .before .before .before .fdt-rule .ensures) (c .before .before .get-next-fdt-transfer .ensures) (c .if1 .left)
 
 pub get-next-fdt-transfer-spec : {M : Type 1} → statement M
 get-next-fdt-transfer-spec =

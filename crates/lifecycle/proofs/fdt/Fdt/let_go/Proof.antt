@@ -23,7 +23,7 @@ array-set-from-slots c = search needs
 
 returns : tie.Need-returns
 unfolding let-go-of
-returns c = rw (c .before .before .before .no-slot .ensures, c .before .before .before .before .before .free .ensures .exact)
+returns c = rw (c .no-slot .ensures, c .before .before .free .ensures .exact)
 
 pub let-go-spec : {M : Type 1} → statement M
 let-go-spec =

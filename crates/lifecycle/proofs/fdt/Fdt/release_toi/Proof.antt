@@ -8,7 +8,7 @@ release-requires c κs = search needs
 
 returns : tie.Need-returns
 unfolding released-of
-returns c = rw (c .before .before .before .before .before .release .ensures .exact)
+returns c = rw (c .before .release .ensures .exact)
 
 pub release-toi-spec : {M : Type 1} → statement M
 release-toi-spec = tie.close (tie.spec release-requires returns)

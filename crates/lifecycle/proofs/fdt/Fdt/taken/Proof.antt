@@ -11,11 +11,17 @@ mul-v c = search needs
 array-copy-out-v : tie.Need-array-copy-out-v
 array-copy-out-v c = search needs
 
+add-v : tie.Need-add-v
+add-v c = let s = c .before .before .before in let h = holders-few (s .args .self) (s .pre .0) (s .args .k) in omega arith
+
 transfer-started-requires : tie.Need-transfer-started-requires
 transfer-started-requires c κs = search needs
 
-add-t15 : tie.Need-add-t15
-add-t15 c = let s = c .before .before .before .before .before in let h = holders-few (s .args .self) (s .pre .0) (s .args .k) in omega arith
+queue-closed-requires : tie.Need-queue-closed-requires
+queue-closed-requires c κs = search needs
+
+sub-self : tie.Need-sub-self
+sub-self c = search needs
 
 mul-slots : tie.Need-mul-slots
 mul-slots c = search needs
@@ -23,15 +29,9 @@ mul-slots c = search needs
 array-set-from-slots : tie.Need-array-set-from-slots
 array-set-from-slots c = search needs
 
-queue-closed-requires : tie.Need-queue-closed-requires
-queue-closed-requires c κs = search needs
-
-sub-t11 : tie.Need-sub-t11
-sub-t11 c = search needs
-
 returns : tie.Need-returns
 unfolding taken-at
-returns c = rw (c .before .before .before .before .queue-closed .ensures, c .before .before .before .before .before .before .before .transfer-started .ensures)
+returns c = rw (c .before .queue-closed .ensures, c .before .before .before .transfer-started .ensures)
 
 pub taken-spec : {M : Type 1} → statement M
 taken-spec =
@@ -39,10 +39,10 @@ taken-spec =
     (tie.spec
     mul-v
     array-copy-out-v
+    add-v
     transfer-started-requires
-    add-t15
+    queue-closed-requires
+    sub-self
     mul-slots
     array-set-from-slots
-    queue-closed-requires
-    sub-t11
     returns)

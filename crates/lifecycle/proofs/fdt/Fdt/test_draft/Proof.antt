@@ -18,18 +18,18 @@ are-bad-blocks-requires c κs = search needs
 
 returns-2 : tie.Need-returns-2
 unfolding draft-test-of
-returns-2 c = rw (c .before .before .before .before .draft .given .1, ← c .before .are-bad-blocks .ensures, c .if1 .taken)
+returns-2 c = rw (c .before .before .before .draft .given .1, ← c .before .are-bad-blocks .ensures, c .if1 .taken)
 
 bad-fdt-part-requires : tie.Need-bad-fdt-part-requires
 bad-fdt-part-requires c κs = search needs
 
 returns-3 : tie.Need-returns-3
 unfolding draft-test-of
-returns-3 c = rw (c .before .before .before .before .before .before .before .draft .given .1, ← c .before .before .before .before .are-bad-blocks .ensures, c .before .before .before .if1 .left, ← c .before .bad-fdt-part .ensures, c .if2 .taken)
+returns-3 c = rw (c .before .before .before .before .before .draft .given .1, ← c .before .before .before .are-bad-blocks .ensures, c .before .before .if1 .left, ← c .before .bad-fdt-part .ensures, c .if2 .taken)
 
 returns-4 : tie.Need-returns-4
 unfolding draft-test-of
-returns-4 c = rw (c .before .before .before .before .before .before .before .draft .given .1, ← c .before .before .before .before .are-bad-blocks .ensures, c .before .before .before .if1 .left, ← c .before .bad-fdt-part .ensures, c .if2 .left)
+returns-4 c = rw (c .before .before .before .before .before .draft .given .1, ← c .before .before .before .are-bad-blocks .ensures, c .before .before .if1 .left, ← c .before .bad-fdt-part .ensures, c .if2 .left)
 
 pub test-draft-spec : {M : Type 1} → statement M
 test-draft-spec =

@@ -36,20 +36,20 @@ let-go-requires-2 : tie.Need-let-go-requires-2
 let-go-requires-2 c κs = search needs
 
 returns-4 : tie.Need-returns-4
-returns-4 c = let a = c .before .before .before .before .before .before .before .before .before .before .before .before .args in
+returns-4 c = let a = c .before .before .before .before .before .before .before .before .before .before .before .args in
     let x = sym (ap (λ (d : FileDesc). expired (plan-of (d .rule)) (life-of (d .life))) (c .before .before .before .transfer-done .ensures)) ∙ sym (c .before .before .is-expired .ensures) ∙ c .before .if4 .taken in
-    c .let-go2 .ensures ∙ sym (done-expired (a .now) (a .k) (a .self) (not-false _ (c .before .before .before .before .before .before .before .if2 .left)) (not-false _ (c .before .before .before .before .before .if3 .left)) x)
+    c .let-go2 .ensures ∙ sym (done-expired (a .now) (a .k) (a .self) (not-false _ (c .before .before .before .before .before .before .if2 .left)) (not-false _ (c .before .before .before .before .if3 .left)) x)
 
 back-requires : tie.Need-back-requires
-back-requires c κs = let s = c .before .before .before .before .before .before .before .before .before .before .before in
-    let h = c .before .before .before .before .before .before .before .before .before .before .if1 .left in
-    let e = not-false _ (c .before .before .before .before .before .before .if2 .left) in
+back-requires c κs = let s = c .before .before .before .before .before .before .before .before .before .before in
+    let h = c .before .before .before .before .before .before .before .before .before .if1 .left in
+    let e = not-false _ (c .before .before .before .before .before .if2 .left) in
     (s .pre, h, sends-room (s .args .self) (s .pre) (s .args .k) h e, sends-held (s .args .self) (s .pre) (s .args .k) e)
 
 returns-5 : tie.Need-returns-5
-returns-5 c = let a = c .before .before .before .before .before .before .before .before .before .before .before .before .args in
+returns-5 c = let a = c .before .before .before .before .before .before .before .before .before .before .before .args in
     let x = sym (ap (λ (d : FileDesc). expired (plan-of (d .rule)) (life-of (d .life))) (c .before .before .before .transfer-done .ensures)) ∙ sym (c .before .before .is-expired .ensures) ∙ c .before .if4 .left in
-    c .back .ensures ∙ sym (done-back (a .now) (a .k) (a .self) (not-false _ (c .before .before .before .before .before .before .before .if2 .left)) (not-false _ (c .before .before .before .before .before .if3 .left)) x)
+    c .back .ensures ∙ sym (done-back (a .now) (a .k) (a .self) (not-false _ (c .before .before .before .before .before .before .if2 .left)) (not-false _ (c .before .before .before .before .if3 .left)) x)
 
 pub transfer-done-spec : {M : Type 1} → statement M
 transfer-done-spec =

@@ -33,16 +33,16 @@ reset-last-transfer-requires : tie.Need-reset-last-transfer-requires
 reset-last-transfer-requires c κs = search needs
 
 mul-slots : tie.Need-mul-slots
-mul-slots c = let s = c .before .before .before .before .before .before .before .before .before in
-    let h = found-slot (s .args .self) (s .pre) (is-listed-as (s .args .toi)) _ (said-some (c .before .before .before .before .before .before .before .listed-slot .ensures) (c .before .before .before .before .before .k .given .1)) .0 in search needs
+mul-slots c = let s = c .before .before .before .before .before .before .before .before in
+    let h = found-slot (s .args .self) (s .pre) (is-listed-as (s .args .toi)) _ (said-some (c .before .before .before .before .before .before .listed-slot .ensures) (c .before .before .before .before .k .given .1)) .0 in search needs
 
 array-set-from-slots : tie.Need-array-set-from-slots
-array-set-from-slots c = let s = c .before .before .before .before .before .before .before .before .before in
-    found-slot (s .args .self) (s .pre) (is-listed-as (s .args .toi)) _ (said-some (c .before .before .before .before .before .before .before .listed-slot .ensures) (c .before .before .before .before .before .k .given .1)) .0
+array-set-from-slots c = let s = c .before .before .before .before .before .before .before .before in
+    found-slot (s .args .self) (s .pre) (is-listed-as (s .args .toi)) _ (said-some (c .before .before .before .before .before .before .listed-slot .ensures) (c .before .before .before .before .k .given .1)) .0
 
 returns-3 : tie.Need-returns-3
-returns-3 c = let a = c .before .before .before .before .before .before .before .before .before .before .before .before .before .args in
-    rw (c .before .before .before .before .reset-last-transfer .ensures) (sym (triggered-some (a .toi) (a .self) _ (said-some (c .before .before .before .before .before .before .before .before .before .before .before .listed-slot .ensures) (c .before .before .before .before .before .before .before .before .before .k .given .1)) (c .before .before .before .before .before .before .if1 .left) (a .start)))
+returns-3 c = let a = c .before .before .before .before .before .before .before .before .args in
+    rw (c .reset-last-transfer .ensures) (sym (triggered-some (a .toi) (a .self) _ (said-some (c .before .before .before .before .before .before .listed-slot .ensures) (c .before .before .before .before .k .given .1)) (c .before .if1 .left) (a .start)))
 
 pub trigger-transfer-at-spec : {M : Type 1} → statement M
 trigger-transfer-at-spec =

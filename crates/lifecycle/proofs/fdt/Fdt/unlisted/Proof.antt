@@ -1,28 +1,52 @@
-use mathlib.Core.Path.{refl}
+use mathlib.Core.Bool.{false}
+use mathlib.Core.Path.{ap}
+use Prim.Native.Nat.{_-_, _<_}
+use native.Mathlib.Omega.{arith}
+use lib.ListN.{length, set}
+use lib.Seq.{getD-set-same, set-set}
 use borrow.Author.Needs.{needs}
-use Rattle.lifecycle.specs.FdtCalls.{unlisted-of}
+use Rattle.lifecycle.specs.declared.slots.Slot.{Slot}
+use Rattle.lifecycle.specs.Slots.{no-slot, slot-at}
+use Rattle.lifecycle.specs.FdtCalls.{with-slots, unlisted-of}
 use Rattle.lifecycle.proofs.fdt.Fdt.unlisted.Statement.{statement}
 use Rattle.lifecycle.proofs.fdt.Fdt.unlisted.Tie as tie
-
-mul-v : tie.Need-mul-v
-mul-v c = search needs
-
-array-copy-out-v : tie.Need-array-copy-out-v
-array-copy-out-v c = search needs
-
-sub-t9 : tie.Need-sub-t9
-sub-t9 c = search needs
 
 mul-slots : tie.Need-mul-slots
 mul-slots c = search needs
 
-array-set-from-slots : tie.Need-array-set-from-slots
-array-set-from-slots c = search needs
+element-copy-out-slots : tie.Need-element-copy-out-slots
+element-copy-out-slots c = search needs
+
+sub-slots : tie.Need-sub-slots
+sub-slots c = search needs
+
+way-write-given-slots : tie.Need-way-write-given-slots
+way-write-given-slots c = search needs
+
+mul-slots-2 : tie.Need-mul-slots-2
+mul-slots-2 c = search needs
+
+way-write-given-slots-2 : tie.Need-way-write-given-slots-2
+way-write-given-slots-2 c = search needs
 
 returns : tie.Need-returns
 unfolding unlisted-of
-returns c = refl
+returns c = let s = c .before .before .before in
+    let l = s .args .self .slots in
+    let k = s .args .k in
+    let g = s .pre .0 .slots-long in
+    let h : k < length l = omega arith in
+    let v = slot-at l k in
+    rw set-set (ap (λ (w : Slot). with-slots (s .args .self) (set l k (record { holders = w .holders; listed = false; file = w .file }))) (getD-set-same l k (record { holders = v .holders - 1; listed = v .listed; file = v .file }) no-slot h))
 
 pub unlisted-spec : {M : Type 1} → statement M
 unlisted-spec =
-    tie.close (tie.spec mul-v array-copy-out-v sub-t9 mul-slots array-set-from-slots returns)
+    tie.close
+    (tie.spec
+    mul-slots
+    element-copy-out-slots
+    sub-slots
+    way-write-given-slots
+    mul-slots-2
+    way-write-given-slots-2
+    returns)

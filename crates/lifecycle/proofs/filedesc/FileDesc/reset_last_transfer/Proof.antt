@@ -6,7 +6,7 @@ reset-requires : tie.Need-reset-requires
 reset-requires c κs = search needs
 
 returns : tie.Need-returns
-returns c = rw (c .before .before .before .reset .ensures)
+returns c = rw (c .reset .ensures)
 
 pub reset-last-transfer-spec : {M : Type 1} → statement M
 reset-last-transfer-spec = tie.close (tie.spec reset-requires returns)

@@ -6,7 +6,7 @@ done-requires : tie.Need-done-requires
 done-requires c κs = search needs
 
 returns : tie.Need-returns
-returns c = rw (c .before .before .before .done .ensures)
+returns c = rw (c .done .ensures)
 
 pub transfer-done-spec : {M : Type 1} → statement M
 transfer-done-spec = tie.close (tie.spec done-requires returns)

@@ -4,7 +4,7 @@ use Rattle.lifecycle.proofs.filedesc.Life.reset.Tie as tie
 
 returns : tie.Need-returns
 unfolding reset-life
-returns c = rw (c .before .before .if1 .taken)
+returns c = rw (c .if1 .taken)
 
 returns-2 : tie.Need-returns-2
 unfolding reset-life

@@ -10,7 +10,7 @@ returns c = rw (not-true (c .before .before .before .before .args .r .repeats) (
 
 returns-2 : tie.Need-returns-2
 unfolding started-life
-returns-2 c = rw (not-false (c .before .before .before .before .before .before .before .before .before .before .args .r .repeats) (c .before .before .before .before .before .before .if1 .left), eq-eqb _ _ (c .before .before .before .if2 .taken))
+returns-2 c = rw (not-false (c .before .before .before .before .before .before .before .args .r .repeats) (c .before .before .before .if1 .left), eq-eqb _ _ (c .if2 .taken))
 
 returns-3 : tie.Need-returns-3
 unfolding started-life
