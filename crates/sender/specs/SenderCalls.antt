@@ -38,6 +38,7 @@ use Rattle.sender.specs.SessionCalls.{Holds, object-of, session-of, idle
 use Rattle.sender.specs.FdtSessionCalls.{FdtHolds, fdt-hand-of, fdt-idle-of, fdt-ran-of}
 use Rattle.sender.specs.SessionMeans.{Stands, FdtInHand}
 use Rattle.sender.specs.declared.sendersession.SenderSession.{SenderSession}
+use Rattle.sender.specs.declared.fdtsession.FdtSession.{FdtSession}
 use Rattle.sender.specs.declared.sendersession.Served.{Served}
 use Rattle.sender.specs.declared.sendersession.Served.the-variants as ServedV
 use Rattle.sender.specs.declared.sender.Sender.{Sender}
@@ -223,6 +224,14 @@ abbrev pub answer-of : Bool → ℕ → ℕ → Served → RunAnswer
 answer-of f toi id ServedV.Idle = RunV.Nothing
 answer-of f toi id ServedV.Over = RunV.Nothing
 answer-of f toi id (ServedV.Sent y) = RunV.Packet (record { «is_fdt» = f; toi = toi; «fdt_id» = id; symbol = y })
+
+-- the sender with x for file session k
+abbrev pub with-session : ℕ → SenderSession → Sender → Sender
+with-session k x s = record { fdt = s .fdt; window = s .window; count = s .count; sessions = set (s .sessions) k x; «fdt_session» = s .«fdt_session» }
+
+-- the sender with x for the FDT session
+abbrev pub with-fdt-session : FdtSession → Sender → Sender
+with-fdt-session x s = record { fdt = s .fdt; window = s .window; count = s .count; sessions = s .sessions; «fdt_session» = x }
 
 -- a run of file session i
 unfoldable pub running-of : ℕ → ℕ → Sender → Running

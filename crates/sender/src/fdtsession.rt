@@ -7,8 +7,8 @@ use crate::blockencoder::Emitted;
 use crate::sendersession::Served;
 use crate::sendersession::no_encoder;
 use lifecycle::announce::Draft;
+use lifecycle::announce::Instance;
 use lifecycle::fdt::Fdt;
-use lifecycle::parts::Part;
 use sizes::partition::Sizes;
 
 // `id` is the FDT's in hand while `busy`.
@@ -54,53 +54,53 @@ impl FdtSession {
     }
 
     // The FDT that starts is in hand; an FDT has a carousel, so no packet of it closes.
-    fn begin(id: u32, part: Part, sizes: Sizes, width: usize) -> FdtSession
-        ensures { λ r. ⌜ r ≡ fdt-begun-of width id part sizes ⌝ }
+    fn begin(i: Instance, sizes: Sizes, width: usize) -> FdtSession
+        ensures { λ r. ⌜ r ≡ fdt-begun-of width (i .id) (i .part) sizes ⌝ }
     {
         FdtSession {
             busy: true,
-            id,
-            encoder: BlockEncoder::new(part, sizes, width, false),
+            id: i.id,
+            encoder: BlockEncoder::new(i.part, sizes, width, false),
         }
     }
 
     // The next packet of what is in hand; at the end of its transfer it is done. It is never forced.
-    fn send(self, fdt: Fdt, now: u64, taken: bool) -> FdtRan
+    fn send(mut self, mut fdt: Fdt, now: u64, taken: bool) -> FdtRan
         requires { ⌜ FdtRuns fdt self ⌝ }
         ensures { λ r. ⌜ r ≡ fdt-sent-of now taken fdt self ⌝ }
     {
-        if self.busy {
-            let encoder = self.encoder;
-            let r = encoder.read(false);
-            let answer = r.answer;
-            let after = r.encoder;
-            let Emitted::One(s) = answer else {
-                return FdtRan {
-                    taken,
-                    answer: Served::Over,
-                    fdt: fdt.fdt_transfer_done(now),
-                    session: FdtSession::idle(),
-                };
-            };
-            let mut x = self;
-            x.encoder = after;
+        if !self.busy {
             return FdtRan {
                 taken,
-                answer: Served::Sent(s),
+                answer: Served::Idle,
                 fdt,
-                session: x,
+                session: self,
             };
         }
+        let r = self.encoder.read(false);
+        let answer = r.answer;
+        let Emitted::One(s) = answer else {
+            fdt = fdt.fdt_transfer_done(now);
+            self = FdtSession::idle();
+            return FdtRan {
+                taken,
+                answer: Served::Over,
+                fdt,
+                session: self,
+            };
+        };
+        let after = r.encoder;
+        self.encoder = after;
         FdtRan {
             taken,
-            answer: Served::Idle,
+            answer: Served::Sent(s),
             fdt,
             session: self,
         }
     }
 
     // With nothing in hand ask for the next FDT; then send.
-    fn attempt(self, fdt: Fdt, width: usize, now: u64, draft: Draft, taken: bool) -> FdtRan
+    fn attempt(mut self, mut fdt: Fdt, width: usize, now: u64, draft: Draft, taken: bool) -> FdtRan
         requires { ⌜ FdtTries fdt width draft self ⌝ }
         ensures { λ r. ⌜ r ≡ fdt-attempted-of width now draft taken fdt self ⌝ }
     {
@@ -109,14 +109,13 @@ impl FdtSession {
         }
         let sizes = fdt.settings.sizes;
         let n = fdt.get_next_fdt_transfer(now, left_draft(draft, taken));
-        let f = n.fdt;
         let told = either(taken, n.taken);
+        fdt = n.fdt;
         if n.starts {
-            let i = f.announcer.current;
-            let x = FdtSession::begin(i.id, i.part, sizes, width);
-            return x.send(f, now, told);
+            self = FdtSession::begin(fdt.announcer.current, sizes, width);
+            return self.send(fdt, now, told);
         }
-        self.send(f, now, told)
+        self.send(fdt, now, told)
     }
 
     // On the end of a transfer it goes round again, once.

@@ -1,10 +1,13 @@
 // The sender: every call from outside (src/sender/sender.rs).
 ghost use mathlib.Core.Path.{_≡_};
-ghost use Prim.Native.Nat.{_<_, _≤_};
-ghost use lib.ListN.{take};
+ghost use Prim.Native.Nat.{_<_};
+ghost use lib.ListN.{take, getD};
 ghost use Rattle.sizes.specs.Words.{any, given};
+ghost use Rattle.sizes.specs.Limits.{object-slots};
+ghost use Rattle.lifecycle.specs.Slots.{slot-at};
 ghost use Rattle.lifecycle.specs.FdtCalls.{draft-said};
-ghost use Rattle.sender.specs.SenderCalls.{Valid, has-priority, answer-of, request-of, admission-said, draft-answer, Reserves, Releases, Adds, Removes, Prompts, Lists, Totals, Completes, Publishes, RunsFdt, RunsFile};
+ghost use Rattle.sender.specs.SessionCalls.{idle-of};
+ghost use Rattle.sender.specs.SenderCalls.{Valid, has-priority, with-list, with-session, with-fdt-session, answer-of, request-of, admission-said, draft-answer, Reserves, Releases, Adds, Removes, Prompts, Lists, Totals, Completes, Publishes, RunsFdt, RunsFile};
 use crate::blockencoder::Symbol;
 use crate::fdtsession::FdtSession;
 use crate::sendersession::SenderSession;
@@ -111,21 +114,6 @@ pub struct Running {
     pub sender: Sender,
 }
 
-// Has one of the first n sessions this priority?
-fn has_session(sessions: [SenderSession; 4], n: usize, priority: u32) -> bool
-    requires { ⌜ n ≤ 4 ⌝ }
-    ensures { λ r. ⌜ r ≡ any (has-priority priority) (take n sessions) ⌝ }
-{
-    let mut i: usize = 0;
-    while i < n {
-        if sessions[i].priority == priority {
-            return true;
-        }
-        i += 1;
-    }
-    false
-}
-
 // The answer of a run of a session.
 fn run_answer(answer: Served, is_fdt: bool, toi: u64, fdt_id: u32) -> RunAnswer
     ensures { λ r. ⌜ r ≡ answer-of «is_fdt» toi «fdt_id» answer ⌝ }
@@ -197,15 +185,76 @@ fn draft_answer(t: DraftTest) -> RunAnswer
 }
 
 impl Sender {
+    // Has a file session this priority?
+    fn has_priority(self, priority: u32) -> bool
+        requires { ⌜ Valid self ⌝ }
+        ensures { λ r. ⌜ r ≡ any (has-priority priority) (take (self .count) (self .sessions)) ⌝ }
+    {
+        let n = self.count;
+        let sessions = self.sessions;
+        let mut i: usize = 0;
+        while i < n {
+            if sessions[i].priority == priority {
+                return true;
+            }
+            i += 1;
+        }
+        false
+    }
+
+    // The number of the object in slot k.
+    fn toi_at(self, k: usize) -> u64
+        requires { ⌜ k < object-slots ⌝ }
+        ensures { λ r. ⌜ r ≡ slot-at (self .fdt .slots) k .file .toi ⌝ }
+    {
+        let f = self.fdt;
+        let slots = f.slots;
+        slots[k].file.toi
+    }
+
+    // File session k.
+    fn session_at(self, k: usize) -> SenderSession
+        requires { ⌜ Valid self × (k < self .count) ⌝ }
+        ensures { λ r. ⌜ r ≡ getD (self .sessions) k (idle-of 0) ⌝ }
+    {
+        let sessions = self.sessions;
+        sessions[k]
+    }
+
+    // The sender with another list.
+    fn with_fdt(mut self, fdt: Fdt) -> Sender
+        ensures { λ r. ⌜ r ≡ with-list self fdt ⌝ }
+    {
+        self.fdt = fdt;
+        self
+    }
+
+    // The sender with x for the FDT session.
+    fn with_fdt_session(mut self, x: FdtSession) -> Sender
+        ensures { λ r. ⌜ r ≡ with-fdt-session x self ⌝ }
+    {
+        self.fdt_session = x;
+        self
+    }
+
+    // The sender with x for file session k.
+    fn with_session(mut self, k: usize, x: SenderSession) -> Sender
+        requires { ⌜ k < 4 ⌝ }
+        ensures { λ r. ⌜ r ≡ with-session k x self ⌝ }
+    {
+        let mut sessions = self.sessions;
+        sessions[k] = x;
+        self.sessions = sessions;
+        self
+    }
+
     pub fn reserve(mut self) -> Reserving
         requires { ⌜ Valid self ⌝ }
         ensures { λ r. ⌜ Reserves self r ⌝ }
     {
-        let f = self.fdt;
-        let r = f.allocate_toi();
+        let r = self.fdt.allocate_toi();
         let answer = r.answer;
-        let after = r.fdt;
-        self.fdt = after;
+        self = self.with_fdt(r.fdt);
         Reserving {
             answer,
             sender: self,
@@ -216,11 +265,9 @@ impl Sender {
         requires { ⌜ Valid self ⌝ }
         ensures { λ r. ⌜ Releases toi self r ⌝ }
     {
-        let f = self.fdt;
-        let r = f.release_toi(toi);
+        let r = self.fdt.release_toi(toi);
         let answer = r.answer;
-        let after = r.fdt;
-        self.fdt = after;
+        self = self.with_fdt(r.fdt);
         Releasing {
             answer,
             sender: self,
@@ -231,10 +278,8 @@ impl Sender {
         requires { ⌜ Valid self ⌝ }
         ensures { λ r. ⌜ Removes toi self r ⌝ }
     {
-        let f = self.fdt;
-        let r = f.remove_object(toi);
-        let after = r.fdt;
-        self.fdt = after;
+        let r = self.fdt.remove_object(toi);
+        self = self.with_fdt(r.fdt);
         Telling {
             yes: r.yes,
             sender: self,
@@ -245,10 +290,8 @@ impl Sender {
         requires { ⌜ Valid self ⌝ }
         ensures { λ r. ⌜ Prompts toi start self r ⌝ }
     {
-        let f = self.fdt;
-        let r = f.trigger_transfer_at(toi, start);
-        let after = r.fdt;
-        self.fdt = after;
+        let r = self.fdt.trigger_transfer_at(toi, start);
+        self = self.with_fdt(r.fdt);
         Telling {
             yes: r.yes,
             sender: self,
@@ -259,25 +302,21 @@ impl Sender {
         requires { ⌜ Valid self ⌝ }
         ensures { λ r. ⌜ Lists toi self r ⌝ }
     {
-        let f = self.fdt;
-        f.is_added(toi)
+        self.fdt.is_added(toi)
     }
 
     pub fn transfers(self, toi: u64) -> Transfers
         requires { ⌜ Valid self ⌝ }
         ensures { λ r. ⌜ Totals toi self r ⌝ }
     {
-        let f = self.fdt;
-        f.nb_transfers(toi)
+        self.fdt.nb_transfers(toi)
     }
 
     pub fn complete(mut self) -> Sender
         requires { ⌜ Valid self ⌝ }
         ensures { λ r. ⌜ Completes self r ⌝ }
     {
-        let f = self.fdt;
-        let after = f.set_complete();
-        self.fdt = after;
+        self.fdt = self.fdt.set_complete();
         self
     }
 
@@ -285,11 +324,9 @@ impl Sender {
         requires { ⌜ Valid self ⌝ }
         ensures { λ r. ⌜ Publishes now part self r ⌝ }
     {
-        let f = self.fdt;
-        let r = f.publish(now, part);
+        let r = self.fdt.publish(now, part);
         let answer = r.answer;
-        let after = r.fdt;
-        self.fdt = after;
+        self = self.with_fdt(r.fdt);
         Publishing {
             answer,
             sender: self,
@@ -300,18 +337,15 @@ impl Sender {
         requires { ⌜ Valid self ⌝ }
         ensures { λ r. ⌜ Adds o named self r ⌝ }
     {
-        let sessions = self.sessions;
-        if !has_session(sessions, self.count, o.priority) {
+        if !self.has_priority(o.priority) {
             return Adding {
                 answer: AddAnswer::NoSession,
                 sender: self,
             };
         }
-        let f = self.fdt;
-        let r = f.add_object(request(o), named);
+        let r = self.fdt.add_object(request(o), named);
         let answer = r.answer;
-        let after = r.fdt;
-        self.fdt = after;
+        self = self.with_fdt(r.fdt);
         Adding {
             answer: add_answer(answer),
             sender: self,
@@ -324,8 +358,7 @@ impl Sender {
         ensures { λ r. ⌜ RunsFdt now draft self r ⌝ }
     {
         let d = real_draft(draft);
-        let f = self.fdt;
-        let test = f.test_draft(d);
+        let test = self.fdt.test_draft(d);
         if is_bad(test) {
             return Running {
                 taken: false,
@@ -333,16 +366,13 @@ impl Sender {
                 sender: self,
             };
         }
-        let x = self.fdt_session;
-        let r = x.run(f, self.window, now, d);
-        let after = r.fdt;
-        let session = r.session;
+        let r = self.fdt_session.run(self.fdt, self.window, now, d);
         let answer = r.answer;
-        self.fdt = after;
-        self.fdt_session = session;
+        self = self.with_fdt(r.fdt);
+        self = self.with_fdt_session(r.session);
         Running {
             taken: r.taken,
-            answer: run_answer(answer, true, 0, session.id),
+            answer: run_answer(answer, true, 0, r.session.id),
             sender: self,
         }
     }
@@ -360,16 +390,11 @@ impl Sender {
             };
         }
         let k = i as usize;
-        let x = self.sessions[k];
-        let f = self.fdt;
-        let r = x.run(f, self.window, now);
-        let after = r.fdt;
-        let session = r.session;
+        let r = self.session_at(k).run(self.fdt, self.window, now);
         let answer = r.answer;
-        let j = session.slot;
-        let toi = after.slots[j].file.toi;
-        self.fdt = after;
-        self.sessions[k] = session;
+        self = self.with_fdt(r.fdt);
+        self = self.with_session(k, r.session);
+        let toi = self.toi_at(r.session.slot);
         Running {
             taken: false,
             answer: run_answer(answer, false, toi, 0),

@@ -1,6 +1,8 @@
 // A file session: it has one object in hand at a time and sends its packets (src/sender/sendersession.rs).
 ghost use mathlib.Core.Path.{_≡_};
-ghost use Prim.Native.Nat.{_≤_};
+ghost use Prim.Native.Nat.{_<_, _≤_};
+ghost use Rattle.sizes.specs.Limits.{object-slots};
+ghost use Rattle.lifecycle.specs.Slots.{slot-at};
 ghost use Rattle.sender.specs.EncoderCalls.{Valid as EncoderValid};
 ghost use Rattle.sender.specs.SessionCalls.{Ready, Holds, Runs, no-encoder, idle-of, begun-of, forced-slot, served-of, attended-of, taken-on-of, ran-of};
 use crate::block::no_open;
@@ -13,7 +15,6 @@ use lifecycle::filedesc::FileDesc;
 use lifecycle::filedesc::Pace;
 use lifecycle::parts::Part;
 use lifecycle::slots::Place;
-use lifecycle::slots::Slot;
 use sizes::numbers::Sbn;
 use sizes::partition::Partition;
 use sizes::partition::Sizes;
@@ -73,15 +74,28 @@ pub fn no_encoder() -> BlockEncoder
     }
 }
 
-// Is the transfer to be forced to its end: the object may be stopped, and is not listed?
-fn is_forced(v: Slot) -> bool
-    ensures { λ r. ⌜ r ≡ forced-slot v ⌝ }
+// Is the transfer of the object in slot k to be forced to its end: it may be stopped, and is not listed?
+fn is_forced(fdt: Fdt, k: usize) -> bool
+    requires { ⌜ k < object-slots ⌝ }
+    ensures { λ r. ⌜ r ≡ forced-slot (slot-at (fdt .slots) k) ⌝ }
 {
+    let slots = fdt.slots;
+    let v = slots[k];
     if v.listed {
         return false;
     }
     let file = v.file;
     file.can_transfer_be_stopped()
+}
+
+// The object in slot k.
+fn file_at(fdt: Fdt, k: usize) -> FileDesc
+    requires { ⌜ k < object-slots ⌝ }
+    ensures { λ r. ⌜ r ≡ slot-at (fdt .slots) k .file ⌝ }
+{
+    let slots = fdt.slots;
+    let v = slots[k];
+    v.file
 }
 
 impl SenderSession {
@@ -120,7 +134,7 @@ impl SenderSession {
     }
 
     // Nothing while an FDT is queued or before the due time; else the next packet, or that the transfer is over.
-    fn serve(self, forced: bool, blocked: bool, now: u64) -> Service
+    fn serve(mut self, forced: bool, blocked: bool, now: u64) -> Service
         requires { ⌜ EncoderValid (self .encoder) ⌝ }
         ensures { λ r. ⌜ r ≡ served-of forced blocked now self ⌝ }
     {
@@ -137,68 +151,65 @@ impl SenderSession {
                 session: self,
             };
         }
-        let encoder = self.encoder;
-        let r = encoder.read(forced);
+        let r = self.encoder.read(forced);
         let answer = r.answer;
-        let after = r.encoder;
         let Emitted::One(s) = answer else {
             return Service {
                 answer: Served::Over,
                 session: self,
             };
         };
-        let mut x = self;
-        x.pace = pace.ticked();
-        x.encoder = after;
+        let after = r.encoder;
+        self.pace = pace.ticked();
+        self.encoder = after;
         Service {
             answer: Served::Sent(s),
-            session: x,
+            session: self,
         }
     }
 
     // With an object in hand: at the end of its transfer it is done, and the hand is empty.
-    fn attend(self, fdt: Fdt, now: u64) -> Ran
+    fn attend(mut self, mut fdt: Fdt, now: u64) -> Ran
         requires { ⌜ Ready fdt self ⌝ }
         ensures { λ r. ⌜ r ≡ attended-of now fdt self ⌝ }
     {
         let k = self.slot;
-        let v = fdt.slots[k];
-        let blocked = fdt.need_transfer_fdt();
-        let r = self.serve(is_forced(v), blocked, now);
+        let r = self.serve(is_forced(fdt, k), fdt.need_transfer_fdt(), now);
         let answer = r.answer;
-        let session = r.session;
         if let Served::Over = answer {
+            fdt = fdt.transfer_done(k, now);
+            self = SenderSession::idle(self.priority);
             return Ran {
                 answer,
-                fdt: fdt.transfer_done(k, now),
-                session: SenderSession::idle(self.priority),
+                fdt,
+                session: self,
             };
         }
+        self = r.session;
         Ran {
             answer,
             fdt,
-            session,
+            session: self,
         }
     }
 
     // With nothing in hand: the first in the queue that may start is taken.
-    fn take_on(self, fdt: Fdt, width: usize, now: u64) -> Ran
+    fn take_on(mut self, mut fdt: Fdt, width: usize, now: u64) -> Ran
         requires { ⌜ Holds fdt × (width ≤ 16) ⌝ }
         ensures { λ r. ⌜ r ≡ taken-on-of width now fdt self ⌝ }
     {
         let t = fdt.get_next_file_transfer(self.priority, now);
         let answer = t.answer;
-        let f = t.fdt;
+        fdt = t.fdt;
         let Place::At(k) = answer else {
             return Ran {
                 answer: Served::Idle,
-                fdt: f,
+                fdt,
                 session: self,
             };
         };
-        let v = f.slots[k];
-        let x = SenderSession::begin(self.priority, k, v.file, width, now);
-        x.attend(f, now)
+        self = SenderSession::begin(self.priority, k, file_at(fdt, k), width, now);
+        self.attend(fdt, now)
     }
 
     // In order: without an object take the next; on the end of a transfer go round again, once.

@@ -1,10 +1,14 @@
+use borrow.Author.Tests.{not-true, not-false}
 use Rattle.sender.proofs.FdtSessionLaws.{sent-none, sent-over, sent-one}
 use borrow.Author.Needs.{needs}
 use Rattle.sender.proofs.fdtsession.FdtSession.send.Statement.{statement}
 use Rattle.sender.proofs.fdtsession.FdtSession.send.Tie as tie
 
+returns : tie.Need-returns
+returns c = let s = c .before .before .args in sent-none (s .now) (s .taken) (s .fdt) (s .self) (not-true _ (c .if1 .taken))
+
 read-requires : tie.Need-read-requires
-read-requires c κs = c .before .before .pre .busy (c .before .if1 .taken)
+read-requires c κs = c .before .before .pre .busy (not-false _ (c .if1 .left))
 
 enum-known-answer : tie.Need-enum-known-answer
 enum-known-answer c = search needs
@@ -18,30 +22,29 @@ fdt-transfer-done-requires c κs = search needs
 idle-requires : tie.Need-idle-requires
 idle-requires c κs = search needs
 
-returns : tie.Need-returns
-returns c =
-    let s = c .before .before .before .before .before .before .before .before .args in
-    let r = c .before .before .before .before .before .read in
-    rw (c .before .fdt-transfer-done .ensures, c .idle .ensures) (sent-over (s .now) (s .taken) (s .fdt) (s .self) (c .before .before .before .before .before .before .before .if1 .taken) (r .result) (r .ensures .exact) (c .before .before .enum-told .given .1))
-
 returns-2 : tie.Need-returns-2
 returns-2 c =
-    let s = c .before .before .before .before .before .before .before .args in
-    let r = c .before .before .before .before .read in
-    sent-one (s .now) (s .taken) (s .fdt) (s .self) (c .before .before .before .before .before .before .if1 .taken) (r .result) (r .ensures .exact) _ (c .before .answer .given .1)
+    let b = c .before .before .before .before in
+    let s = b .before .before .before .args in
+    let r = b .read in
+    rw (c .before .fdt-transfer-done .ensures, c .idle .ensures) (sent-over (s .now) (s .taken) (s .fdt) (s .self) (not-false _ (b .before .if1 .left)) (r .result) (r .ensures .exact) (c .before .before .enum-told .given .1))
 
 returns-3 : tie.Need-returns-3
-returns-3 c = let s = c .before .args in sent-none (s .now) (s .taken) (s .fdt) (s .self) (c .if1 .left)
+returns-3 c =
+    let b = c .before .before .before .before in
+    let s = b .before .before .before .args in
+    let r = b .read in
+    sent-one (s .now) (s .taken) (s .fdt) (s .self) (not-false _ (b .before .if1 .left)) (r .result) (r .ensures .exact) _ (c .before .before .answer .given .1)
 
 pub send-spec : {M : Type 1} → statement M
 send-spec =
     tie.close
     (tie.spec
+    returns
     read-requires
     enum-known-answer
     enum-told
     fdt-transfer-done-requires
     idle-requires
-    returns
     returns-2
     returns-3)

@@ -9,7 +9,7 @@ set-complete-requires : tie.Need-set-complete-requires
 set-complete-requires c κs = search needs
 
 returns : tie.Need-returns
-returns c = let s = c .before .before in subst (Completes (s .args .self)) (sym (ap (with-list (s .args .self)) (c .set-complete .ensures))) (completes (s .args .self) (s .pre))
+returns c = let s = c .before in subst (Completes (s .args .self)) (sym (ap (with-list (s .args .self)) (c .set-complete .ensures))) (completes (s .args .self) (s .pre))
 
 pub complete-spec : {M : Type 1} → statement M
 complete-spec = tie.close (tie.spec set-complete-requires returns)

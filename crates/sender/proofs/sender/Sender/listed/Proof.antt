@@ -9,7 +9,7 @@ is-added-requires : tie.Need-is-added-requires
 is-added-requires c κs = search needs
 
 returns : tie.Need-returns
-returns c = let s = c .before .before in subst (Lists (s .args .toi) (s .args .self)) (sym (c .is-added .ensures)) (lists (s .args .self) (s .pre) (s .args .toi))
+returns c = let s = c .before in subst (Lists (s .args .toi) (s .args .self)) (sym (c .is-added .ensures)) (lists (s .args .self) (s .pre) (s .args .toi))
 
 pub listed-spec : {M : Type 1} → statement M
 listed-spec = tie.close (tie.spec is-added-requires returns)

@@ -1,8 +1,9 @@
 use Rattle.lifecycle.specs.declared.fdt.Released.{Released}
 use Rattle.sender.specs.SenderCalls.{with-list, releasing-of, Releases}
+use Rattle.sender.specs.declared.sender.Sender.{Sender}
 use Rattle.sender.specs.declared.sender.Releasing.{Releasing}
 use Rattle.sender.proofs.SenderKept.{releases}
-use mathlib.Core.Path.{sym, ap, subst}
+use mathlib.Core.Path.{sym, _∙_, ap, subst}
 use borrow.Author.Needs.{needs}
 use Rattle.sender.proofs.sender.Sender.release.Statement.{statement}
 use Rattle.sender.proofs.sender.Sender.release.Tie as tie
@@ -10,13 +11,17 @@ use Rattle.sender.proofs.sender.Sender.release.Tie as tie
 release-toi-requires : tie.Need-release-toi-requires
 release-toi-requires c κs = search needs
 
+with-fdt-requires : tie.Need-with-fdt-requires
+with-fdt-requires c κs = search needs
+
 returns : tie.Need-returns
 unfolding releasing-of
 returns c =
-    let s = c .before .before .before in
+    let s = c .before .before in
     let a = s .args in
     let g : Released → Releasing = λ r. record { answer = r .answer; sender = with-list (a .self) (r .fdt) } in
-    subst (Releases (a .toi) (a .self)) (sym (ap g (c .before .release-toi .ensures))) (releases (a .self) (s .pre) (a .toi))
+    let h : Sender → Releasing = λ x. record { answer = c .before .release-toi .result .answer; sender = x } in
+    subst (Releases (a .toi) (a .self)) (sym (ap g (c .before .release-toi .ensures)) ∙ ap h (sym (c .with-fdt .ensures))) (releases (a .self) (s .pre) (a .toi))
 
 pub release-spec : {M : Type 1} → statement M
-release-spec = tie.close (tie.spec release-toi-requires returns)
+release-spec = tie.close (tie.spec release-toi-requires with-fdt-requires returns)

@@ -1,11 +1,13 @@
 use mathlib.Core.Bool.{false}
+use Rattle.lifecycle.specs.Slots.{slot-at}
 use Rattle.sizes.specs.Limits.{object-slots}
 use Rattle.sender.specs.SessionCalls.{Runs, ran-of}
-use Rattle.sender.specs.SenderCalls.{RunsFile}
+use Rattle.sender.specs.SenderCalls.{with-session, answer-of, RunsFile}
 use Rattle.sender.specs.declared.sender.RunAnswer.{RunAnswer}
+use Rattle.sender.specs.declared.sender.Sender.{Sender}
 use Rattle.sender.specs.declared.sender.Running.{Running}
 use Rattle.sender.proofs.DeskRuns.{runs-ready, ran-slot}
-use Rattle.sender.proofs.SenderKept.{runs, run-refused, run-goes, ran-sender, read-session}
+use Rattle.sender.proofs.SenderKept.{runs, run-refused, run-goes, ran-sender}
 use mathlib.Core.Path.{sym, _∙_, ap, subst}
 use Prim.Native.Nat.{_<_}
 use native.Mathlib.Omega.{arith}
@@ -17,70 +19,59 @@ returns : tie.Need-returns
 returns c =
     let s = c .before in
     let a = s .args in
-    subst (RunsFile (a .i) (a .now) (a .t1)) (run-refused (a .i) (a .now) (a .t1) (c .if1 .taken)) (runs (a .t1) (s .pre) (a .i) (a .now))
+    subst (RunsFile (a .i) (a .now) (a .self)) (run-refused (a .i) (a .now) (a .self) (c .if1 .taken)) (runs (a .self) (s .pre) (a .i) (a .now))
 
-mul-x : tie.Need-mul-x
-mul-x c = search needs
-
-element-copy-out-x : tie.Need-element-copy-out-x
-element-copy-out-x c = search needs
+session-at-requires : tie.Need-session-at-requires
+session-at-requires c κs = (c .before .pre, c .if1 .left)
 
 run-requires : tie.Need-run-requires
 run-requires c κs =
-    let s = c .before .before .before in
+    let s = c .before .before in
     let a = s .args in
-    let h = c .before .before .if1 .left in
-    subst (Runs (a .t1 .fdt) (a .t1 .window)) (sym (read-session (a .t1) (s .pre) (a .i) _ (omega arith))) (runs-ready (a .t1) (a .i) (s .pre) (omega arith))
+    subst (Runs (a .self .fdt) (a .self .window)) (sym (c .session-at .ensures)) (runs-ready (a .self) (a .i) (s .pre) (c .before .if1 .left))
 
-mul-toi : tie.Need-mul-toi
-mul-toi c =
-    let s = c .before .before .before .before .before .before in
+with-fdt-requires : tie.Need-with-fdt-requires
+with-fdt-requires c κs = search needs
+
+with-session-requires : tie.Need-with-session-requires
+with-session-requires c κs = let v = c .before .before .before .before .pre .few in let h = c .before .before .before .if1 .left in omega arith
+
+toi-at-requires : tie.Need-toi-at-requires
+toi-at-requires c κs =
+    let b = c .before .before in
+    let s = b .before .before .before in
     let a = s .args in
-    let h = c .before .before .before .before .before .if1 .left in
-    let e = ap (ran-of (a .t1 .window) (a .now) (a .t1 .fdt)) (sym (read-session (a .t1) (s .pre) (a .i) _ (omega arith))) ∙ sym (c .before .before .run .ensures) in
-    let k = subst (λ r. r .session .slot < object-slots) e (ran-slot (a .t1) (a .i) (a .now) (s .pre) (omega arith)) in
-    omega arith
-
-element-copy-out-toi : tie.Need-element-copy-out-toi
-element-copy-out-toi c =
-    let s = c .before .before .before .before .before .before in
-    let a = s .args in
-    let h = c .before .before .before .before .before .if1 .left in
-    let e = ap (ran-of (a .t1 .window) (a .now) (a .t1 .fdt)) (sym (read-session (a .t1) (s .pre) (a .i) _ (omega arith))) ∙ sym (c .before .before .run .ensures) in
-    subst (λ r. r .session .slot < object-slots) e (ran-slot (a .t1) (a .i) (a .now) (s .pre) (omega arith))
-
-mul-session : tie.Need-mul-session
-mul-session c = search needs
-
-element-set-from-session : tie.Need-element-set-from-session
-element-set-from-session c = search needs
+    let e = ap (ran-of (a .self .window) (a .now) (a .self .fdt)) (sym (b .before .session-at .ensures)) ∙ sym (b .run .ensures) in
+    subst (λ r. r .session .slot < object-slots) e (ran-slot (a .self) (a .i) (a .now) (s .pre) (b .before .before .if1 .left))
 
 run-answer-requires : tie.Need-run-answer-requires
 run-answer-requires c κs = search needs
 
 returns-2 : tie.Need-returns-2
 returns-2 c =
-    let s = c .before .before .before .before .before .before .before in
+    let b = c .before .before .before .before in
+    let s = b .before .before .before in
     let a = s .args in
-    let h = c .before .before .before .before .before .before .if1 .left in
-    let r = c .before .before .before .run .result in
-    let e = ap (ran-of (a .t1 .window) (a .now) (a .t1 .fdt)) (sym (read-session (a .t1) (s .pre) (a .i) _ (omega arith))) ∙ sym (c .before .before .before .run .ensures) in
-    let g : RunAnswer → Running = λ y. record { taken = false; answer = y; sender = ran-sender (a .i) (a .t1) r .sender } in
-    subst (RunsFile (a .i) (a .now) (a .t1))
-    (run-goes (a .i) (a .now) (a .t1) (omega arith) ∙ ap (ran-sender (a .i) (a .t1)) e ∙ ap g (sym (c .run-answer .ensures)))
-    (runs (a .t1) (s .pre) (a .i) (a .now))
+    let r = b .run .result in
+    let e = ap (ran-of (a .self .window) (a .now) (a .self .fdt)) (sym (b .before .session-at .ensures)) ∙ sym (b .run .ensures) in
+    let x = ap (with-session (a .i) (r .session)) (sym (c .before .before .before .with-fdt .ensures)) ∙ sym (c .before .before .with-session .ensures) in
+    let t = ap (λ (z : Sender). slot-at (z .fdt .slots) (r .session .slot) .file .toi) x ∙ sym (c .before .toi-at .ensures) in
+    let f : Sender → Running = λ z. record { taken = false; answer = answer-of false (slot-at (r .fdt .slots) (r .session .slot) .file .toi) 0 (r .answer); sender = z } in
+    let g : RunAnswer → Running = λ y. record { taken = false; answer = y; sender = c .before .before .with-session .result } in
+    let y = ap (λ n. answer-of false n 0 (r .answer)) t ∙ sym (c .run-answer .ensures) in
+    subst (RunsFile (a .i) (a .now) (a .self))
+    (run-goes (a .i) (a .now) (a .self) (b .before .before .if1 .left) ∙ ap (ran-sender (a .i) (a .self)) e ∙ ap f x ∙ ap g y)
+    (runs (a .self) (s .pre) (a .i) (a .now))
 
 pub run-spec : {M : Type 1} → statement M
 run-spec =
     tie.close
     (tie.spec
     returns
-    mul-x
-    element-copy-out-x
+    session-at-requires
     run-requires
-    mul-toi
-    element-copy-out-toi
-    mul-session
-    element-set-from-session
+    with-fdt-requires
+    with-session-requires
+    toi-at-requires
     run-answer-requires
     returns-2)

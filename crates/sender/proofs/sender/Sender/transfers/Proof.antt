@@ -7,7 +7,7 @@ nb-transfers-requires : tie.Need-nb-transfers-requires
 nb-transfers-requires c κs = search needs
 
 returns : tie.Need-returns
-returns c = let s = c .before .before in totals (s .args .self) (s .pre) (s .args .toi) _ (c .nb-transfers .ensures)
+returns c = let s = c .before in totals (s .args .self) (s .pre) (s .args .toi) _ (c .nb-transfers .ensures)
 
 pub transfers-spec : {M : Type 1} → statement M
 transfers-spec = tie.close (tie.spec nb-transfers-requires returns)

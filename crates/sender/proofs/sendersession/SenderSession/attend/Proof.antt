@@ -7,17 +7,11 @@ use Rattle.sender.proofs.SessionLaws.{not-over}
 use Rattle.sender.proofs.sendersession.SenderSession.attend.Statement.{statement}
 use Rattle.sender.proofs.sendersession.SenderSession.attend.Tie as tie
 
-mul-v : tie.Need-mul-v
-mul-v c = search needs
-
-element-copy-out-v : tie.Need-element-copy-out-v
-element-copy-out-v c = search needs
+is-forced-requires : tie.Need-is-forced-requires
+is-forced-requires c κs = search needs
 
 need-transfer-fdt-requires : tie.Need-need-transfer-fdt-requires
 need-transfer-fdt-requires c κs = search needs
-
-is-forced-requires : tie.Need-is-forced-requires
-is-forced-requires c κs = search needs
 
 serve-requires : tie.Need-serve-requires
 serve-requires c κs = search needs
@@ -34,29 +28,24 @@ idle-requires c κs = search needs
 returns : tie.Need-returns
 unfolding attended-of
 returns c =
-    let f = c .before .before .before .before .before .before .is-forced .ensures in
-    let n = c .before .before .before .before .before .before .before .need-transfer-fdt .ensures in
-    let s = c .before .before .before .before .before .serve .ensures in
-    rw (← f, ← n, ← s, c .before .before .enum-told .given .1, c .before .transfer-done .ensures, c .idle .ensures)
+    let b = c .before .before .before .before in
+    rw (← b .before .before .is-forced .ensures, ← b .before .need-transfer-fdt .ensures, ← b .serve .ensures, c .before .before .enum-told .given .1, c .before .transfer-done .ensures, c .idle .ensures)
 
 returns-2 : tie.Need-returns-2
 unfolding attended-of
 returns-2 c =
-    let a = c .before .before .before .before .before .before .args in
-    let r = c .before .before .serve .result in
-    let f = c .before .before .before .is-forced .ensures in
-    let n = c .before .before .before .before .need-transfer-fdt .ensures in
-    let s = c .before .before .serve .ensures in
-    rw (← f, ← n, ← s) (not-over (λ (z : Served). _≡_ {A = Ran} (record { answer = z; fdt = a .t2; session = r .session }) (ran-by (a .now) (a .t2) (a .self) (r .session) z)) (r .answer) (c .match .keys2) refl (λ y. refl))
+    let b = c .before .before in
+    let a = b .before .before .before .args in
+    let r = b .serve .result in
+    rw (← b .before .before .is-forced .ensures, ← b .before .need-transfer-fdt .ensures, ← b .serve .ensures)
+    (not-over (λ (z : Served). _≡_ {A = Ran} (record { answer = z; fdt = a .fdt; session = r .session }) (ran-by (a .now) (a .fdt) (a .self) (r .session) z)) (r .answer) (c .before .match .keys2) refl (λ y. refl))
 
 pub attend-spec : {M : Type 1} → statement M
 attend-spec =
     tie.close
     (tie.spec
-    mul-v
-    element-copy-out-v
-    need-transfer-fdt-requires
     is-forced-requires
+    need-transfer-fdt-requires
     serve-requires
     enum-told
     transfer-done-requires

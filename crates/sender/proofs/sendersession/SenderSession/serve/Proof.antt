@@ -27,8 +27,9 @@ enum-told c = search needs
 returns-3 : tie.Need-returns-3
 unfolding served-of
 returns-3 c =
-    let r = c .before .before .before .read .ensures in
-    rw (c .before .before .before .before .before .before .before .before .if1 .left, sym (c .before .before .before .before .before .before .is-early .ensures) ∙ c .before .before .before .before .before .if2 .left, ap (λ z. z .answer) (sym (r .exact)) ∙ c .enum-told .given .1)
+    let b = c .before .before in
+    let r = b .read .ensures in
+    rw (b .before .before .before .before .if1 .left, sym (b .before .before .is-early .ensures) ∙ b .before .if2 .left, ap (λ z. z .answer) (sym (r .exact)) ∙ c .enum-told .given .1)
 
 ticked-requires : tie.Need-ticked-requires
 ticked-requires c κs = search needs
@@ -36,8 +37,9 @@ ticked-requires c κs = search needs
 returns-4 : tie.Need-returns-4
 unfolding served-of
 returns-4 c =
-    let r = c .before .before .before .before .before .read .ensures in
-    rw (c .before .before .before .before .before .before .before .before .before .before .if1 .left, sym (c .before .before .before .before .before .before .before .before .is-early .ensures) ∙ c .before .before .before .before .before .before .before .if2 .left, ap (λ z. z .answer) (sym (r .exact)) ∙ c .before .before .answer .given .1, sym (r .exact), sym (c .ticked .ensures))
+    let b = c .before .before .before .before .before in
+    let r = b .read .ensures in
+    rw (b .before .before .before .before .if1 .left, sym (b .before .before .is-early .ensures) ∙ b .before .if2 .left, ap (λ z. z .answer) (sym (r .exact)) ∙ c .before .before .before .answer .given .1, sym (r .exact), sym (c .ticked .ensures))
 
 pub serve-spec : {M : Type 1} → statement M
 serve-spec =

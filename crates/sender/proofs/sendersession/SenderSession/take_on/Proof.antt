@@ -31,11 +31,8 @@ in-list c =
     let s = c .before .before .before .before .before in
     taken-inside (s .args .fdt) (s .pre .0 .valid) (s .args .self .priority) (s .args .now) _ (found c)
 
-mul-v : tie.Need-mul-v
-mul-v c = let h = in-list c in search needs
-
-element-copy-out-v : tie.Need-element-copy-out-v
-element-copy-out-v c = in-list c
+file-at-requires : tie.Need-file-at-requires
+file-at-requires c κs = in-list c
 
 begin-requires : tie.Need-begin-requires
 begin-requires c κs = search needs
@@ -44,12 +41,12 @@ attend-requires : tie.Need-attend-requires
 attend-requires c κs =
     let s = c .before .before .before .before .before .before .before in
     let a = s .args in
-    rw (c .begin .ensures, c .before .before .before .before .before .before .get-next-file-transfer .ensures) (ready-begun (a .fdt) (s .pre .0) (a .width) (a .self .priority) (a .now) _ (s .pre .1) (found (c .before .before)))
+    rw (c .begin .ensures, c .before .file-at .ensures, c .before .before .before .before .before .before .get-next-file-transfer .ensures) (ready-begun (a .fdt) (s .pre .0) (a .width) (a .self .priority) (a .now) _ (s .pre .1) (found (c .before .before)))
 
 returns-2 : tie.Need-returns-2
 unfolding taken-on-of
 returns-2 c =
-    rw (c .attend .ensures, c .before .begin .ensures, ← c .before .before .before .before .before .before .before .get-next-file-transfer .ensures, c .before .before .before .before .answer .given .1)
+    rw (c .attend .ensures, c .before .begin .ensures, c .before .before .file-at .ensures, ← c .before .before .before .before .before .before .before .get-next-file-transfer .ensures, c .before .before .before .before .answer .given .1)
 
 pub take-on-spec : {M : Type 1} → statement M
 take-on-spec =
@@ -59,8 +56,7 @@ take-on-spec =
     enum-known-answer
     enum-told
     returns
-    mul-v
-    element-copy-out-v
+    file-at-requires
     begin-requires
     attend-requires
     returns-2)

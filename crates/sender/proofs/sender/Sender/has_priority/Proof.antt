@@ -7,19 +7,20 @@ use Prim.Native.Nat.{_-_, _≤_}
 use native.Mathlib.Omega.{arith}
 use borrow.Author.Tests.{eq-eqb, ne-eqb}
 use borrow.Author.Needs.{needs}
-use Rattle.sender.proofs.sender.has_session.Statement.{statement}
-use Rattle.sender.proofs.sender.has_session.Tie as tie
+use Rattle.sender.proofs.sender.Sender.has_priority.Statement.{statement}
+use Rattle.sender.proofs.sender.Sender.has_priority.Tie as tie
 
 abbrev Inv-loop : tie.InvT-loop
-Inv-loop n priority sessions i₀ i = (long : n ≤ length sessions) × (i ≤ n) × (n ≤ 4) × (any (has-priority priority) (drop i (take n sessions)) ≡ any (has-priority priority) (take n sessions))
+Inv-loop priority n sessions i₀ i = (long : n ≤ length sessions) × (i ≤ n) × (n ≤ 4) × (any (has-priority priority) (drop i (take n sessions)) ≡ any (has-priority priority) (take n sessions))
 
 abbrev μ-loop : tie.MeasureT-loop
-μ-loop n priority sessions i₀ i = n - i
+μ-loop priority n sessions i₀ i = n - i
 
 loop-holds : tie.Need-loop-holds Inv-loop μ-loop
 loop-holds c =
-    let g : length (c .args .t1) ≡ 4 = c .good .0 .1 .0 .1 in
-    (omega arith, search needs, search needs, refl)
+    let a = c .before .pre .few in
+    let b = c .before .pre .long in
+    (omega arith, search needs, omega arith, refl)
 
 mul-if1 : tie.Need-mul-if1 Inv-loop μ-loop
 mul-if1 c = search needs
@@ -30,8 +31,8 @@ element-copy-out-if1 c = search needs
 returns : tie.Need-returns Inv-loop μ-loop
 returns c =
     let l = c .before .before .loop in
-    let a = c .before .before .before .args in
-    sym (any-hit (has-priority (a .priority)) (a .n) (a .t1) (l .inv .0) (l .i) _ (omega arith) (eq-eqb _ _ (c .if1 .taken))) ∙ l .inv .3
+    let a = c .before .before .before .before .args in
+    sym (any-hit (has-priority (a .priority)) (a .self .count) (a .self .sessions) (l .inv .0) (l .i) _ (omega arith) (eq-eqb _ _ (c .if1 .taken))) ∙ l .inv .3
 
 add-i : tie.Need-add-i Inv-loop μ-loop
 add-i c = search needs
@@ -42,17 +43,17 @@ loop-less c = search needs
 loop-again : tie.Need-loop-again Inv-loop μ-loop
 loop-again c =
     let l = c .before .before .loop in
-    let a = c .before .before .before .args in
-    (l .inv .0, search needs, l .inv .2, sym (any-miss (has-priority (a .priority)) (a .n) (a .t1) (l .inv .0) (l .i) _ (omega arith) (ne-eqb _ _ (c .if1 .left))) ∙ l .inv .3)
+    let a = c .before .before .before .before .args in
+    (l .inv .0, search needs, l .inv .2, sym (any-miss (has-priority (a .priority)) (a .self .count) (a .self .sessions) (l .inv .0) (l .i) _ (omega arith) (ne-eqb _ _ (c .if1 .left))) ∙ l .inv .3)
 
 returns-2 : tie.Need-returns-2 Inv-loop μ-loop
 returns-2 c =
     let l = c .before .loop in
-    let a = c .before .before .args in
-    sym (any-end (has-priority (a .priority)) (a .n) (a .t1) (l .inv .0) (l .i) (omega arith)) ∙ l .inv .3
+    let a = c .before .before .before .args in
+    sym (any-end (has-priority (a .priority)) (a .self .count) (a .self .sessions) (l .inv .0) (l .i) (omega arith)) ∙ l .inv .3
 
-pub has-session-spec : {M : Type 1} → statement M
-has-session-spec =
+pub has-priority-spec : {M : Type 1} → statement M
+has-priority-spec =
     tie.close
     (tie.spec
     Inv-loop
