@@ -1,11 +1,11 @@
 // The answer to a line `L E B W`: a line for each packet of one transfer sent once, or `refused`.
 //
 // No packet is kept. The text of its line goes into a buffer, which is written whenever the next line may not fit.
-ghost use mathlib.Core.Path.{_≡_};
 ghost use Prim.Native.Nat.{_+_, _≤_};
 ghost use lib.ListN.{length};
 ghost use Rattle.sender.specs.EncoderCalls.{Valid};
-ghost use Rattle.drain_lines.specs.Lines.{Appended, field, line-text, most-field, most-line};
+ghost use Rattle.text.specs.Put.{Appended};
+ghost use Rattle.drain_lines.specs.Lines.{field, line-text, most-field, most-line};
 use libc::STDOUT_FILENO;
 use sender::blockencoder::BlockEncoder;
 use sender::drain::Line;
@@ -20,12 +20,19 @@ pub fn answer(line: &[u8]) {
         refuse();
         return;
     };
+    write_lines(l, e, b, w);
+}
+
+// Writes the lines of a transfer with these numbers and answers true; or writes `refused`, where they are not
+// admitted, and answers false.
+pub fn write_lines(l: u64, e: u64, b: u64, w: u64) -> bool {
     let begun = sender::drain::begin(l, e, b, w);
     if !begun.ok {
         refuse();
-        return;
+        return false;
     }
     send(begun.encoder);
+    true
 }
 
 fn refuse() {
@@ -132,24 +139,6 @@ fn put(out: &mut [u8], at: usize, n: u64, mark: u8) -> usize
     requires { ⌜ at + most-field ≤ length (now out) ⌝ }
     ensures { λ r. ⌜ Appended (now (out .entry)) at (field n mark) (now (out .exit)) r × (r ≤ at + most-field) ⌝ }
 {
-    let mut digits = [0u8; 20];
-    let k = io::decimal(n, &mut digits);
-    let end = put_text(out, at, &digits[..k]);
-    out[end] = mark;
-    end + 1
-}
-
-// The same for any text.
-fn put_text(out: &mut [u8], at: usize, text: &[u8]) -> usize
-    requires { ⌜ at + length (now text) ≤ length (now out) ⌝ }
-    ensures { λ r. ⌜ Appended (now (out .entry)) at (now (text .entry)) (now (out .exit)) r × (r ≡ at + length (now (text .entry))) ⌝ }
-{
-    let mut end = at;
-    let mut i = 0;
-    while i < text.len() {
-        out[end] = text[i];
-        end += 1;
-        i += 1;
-    }
-    end
+    let end = text::put_number(out, at, n);
+    text::put_text(out, end, &[mark])
 }

@@ -1,3 +1,4 @@
+pub mod Appends
 pub mod Lines
 pub mod Lists
 pub mod Numbers

@@ -32,7 +32,7 @@ digits-value zero n h = omega arith
 digits-value (suc k) n h =
     value-snoc 0 (digits 10 k (n / 10)) (glyph (n % 10)) ∙ rw (digits-value k (n / 10) (omega arith), glyph-is n) (omega arith)
 
-digits-length : (k n : ℕ) → length (digits 10 k n) ≡ k
+pub digits-length : (k n : ℕ) → length (digits 10 k n) ≡ k
 digits-length zero n = refl
 digits-length (suc k) n = rw (length-append (digits 10 k (n / 10)) (glyph (n % 10) ∷ []), digits-length k (n / 10)) (omega arith)
 

@@ -1,4 +1,5 @@
 pub mod Bytes
 pub mod Lines
 pub mod Numbers
+pub mod Put
 pub mod Words

@@ -23,6 +23,7 @@
 mod bytes;
 mod line;
 mod number;
+mod put;
 mod word;
 
 pub use bytes::part;
@@ -36,6 +37,8 @@ pub use number::Field;
 pub use number::Number;
 pub use number::next_number;
 pub use number::number_of;
+pub use put::put_number;
+pub use put::put_text;
 pub use word::Word;
 pub use word::ended;
 pub use word::is_word;

@@ -1,7 +1,8 @@
 -- `drain_lines::put_line` meets its contract: the six fields of a packet's line stand one behind another. Assumes nothing.
 use borrow.Author.Needs.{needs}
 use Rattle.drain_lines.specs.Lines.{line-text}
-use Rattle.drain_lines.proofs.Laws.{byte-of, nothing-more, both}
+use Rattle.text.proofs.Appends.{nothing-more, both}
+use Rattle.drain_lines.proofs.Laws.{byte-of}
 use Rattle.drain_lines.proofs.put_line.Statement.{statement}
 use Rattle.drain_lines.proofs.put_line.Tie as tie
 

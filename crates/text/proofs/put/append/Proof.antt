@@ -1,4 +1,4 @@
--- `drain_lines::put_text` meets its contract. The invariant: the first i bytes of the text stand there. Assumes nothing.
+-- `text::put::append` meets its contract. The invariant: the first i bytes of the text stand there. Assumes nothing.
 use mathlib.Core.Path.{_≡_, refl}
 use Prim.Native.Nat.{_+_, _-_, _<_, _≤_}
 use native.Mathlib.Numerals.{add-one}
@@ -7,10 +7,10 @@ use borrow.Author.Needs.{needs}
 use denote.Ref.{now}
 use lib.ListN.{length, take, getD}
 use lib.Seq.{take-suc, take-all}
-use Rattle.drain_lines.specs.Lines.{Appended}
-use Rattle.drain_lines.proofs.Laws.{nothing-more, byte-behind}
-use Rattle.drain_lines.proofs.put_text.Statement.{statement}
-use Rattle.drain_lines.proofs.put_text.Tie as tie
+use Rattle.text.specs.Put.{Appended}
+use Rattle.text.proofs.Appends.{nothing-more, byte-behind}
+use Rattle.text.proofs.put.append.Statement.{statement}
+use Rattle.text.proofs.put.append.Tie as tie
 
 abbrev Inv-loop : tie.InvT-loop
 Inv-loop out₀ at text end₀ i₀ out end i = (i ≤ length text) × (end ≡ at + i) × Appended out₀ at (take i text) out end
@@ -53,10 +53,10 @@ returns : tie.Need-returns Inv-loop μ-loop
 returns c =
     let l = c .before in
     let text = now (l .before .args .text) in
-    (rw (take-all (l .loop .i) text (c .loop-test .left)) at (l .loop .inv .2), search needs)
+    rw (take-all (l .loop .i) text (c .loop-test .left)) at (l .loop .inv .2)
 
-pub put-text-spec : {M : Type 1} → statement M
-put-text-spec =
+pub append-spec : {M : Type 1} → statement M
+append-spec =
     tie.close
     (tie.spec
     Inv-loop

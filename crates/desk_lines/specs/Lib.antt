@@ -1,0 +1,4 @@
+pub mod Commands
+pub mod Plays
+pub mod Replies
+pub mod Stores
