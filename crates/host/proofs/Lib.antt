@@ -1,0 +1,2 @@
+-- What the proofs of the lent calls share.
+pub mod Rows

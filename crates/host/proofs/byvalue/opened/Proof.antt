@@ -1,0 +1,24 @@
+use mathlib.Core.Path.{refl, subst}
+use Rattle.sender.specs.SetupCalls.{Opens}
+use Rattle.sender.specs.declared.setup.Setup.{Setup}
+use borrow.Author.Needs.{needs}
+use Rattle.host.proofs.byvalue.opened.Statement.{statement}
+use Rattle.host.proofs.byvalue.opened.Tie as tie
+
+setup-in-requires : tie.Need-setup-in-requires
+setup-in-requires c κs = search needs
+
+set-up-requires : tie.Need-set-up-requires
+set-up-requires c κs = search needs
+
+told-open-requires : tie.Need-told-open-requires
+told-open-requires c κs = search needs
+
+returns : tie.Need-returns
+returns c =
+    let call = c .before .before .set-up in
+    let named = c .before .before .before .setup-in in
+    record { result = call .result; promised = subst (λ (z : Setup). Opens z (call .result)) (named .ensures) (call .ensures); stored = refl; said = c .told-open .ensures }
+
+pub opened-spec : {M : Type 1} → statement M
+opened-spec = tie.close (tie.spec setup-in-requires set-up-requires told-open-requires returns)

@@ -1,0 +1,2 @@
+-- What each call promises on a lent sender.
+pub mod Lent

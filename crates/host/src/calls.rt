@@ -1,0 +1,139 @@
+// Every call from outside, on a sender that the host lends: the by-value call, on what stands behind the reference.
+// A time is named `at`: in a clause, `now` is what stands behind a reference.
+ghost use Rattle.sender.specs.SenderCalls.{Valid, Removes, Prompts, Lists, Completes};
+ghost use Rattle.host.specs.Lent.{ReservesLent, ReleasesLent, AddsLent, PublishesLent, RunsFdtLent, RunsFileLent, OpensLent, TotalsTold};
+use crate::byvalue::added;
+use crate::byvalue::counted;
+use crate::byvalue::opened;
+use crate::byvalue::published;
+use crate::byvalue::ran;
+use crate::byvalue::ran_fdt;
+use crate::byvalue::released;
+use crate::byvalue::reserved;
+use lifecycle::filedesc::Time;
+use lifecycle::parts::Part;
+use plain::named::PlainObject;
+use plain::named::PlainSetup;
+use plain::told::Counted;
+use plain::told::Numbered;
+use plain::told::Sent;
+use sender::sender::Sender;
+
+// Fills the sender. Any may stand there before, as one of zeros.
+#[no_mangle]
+pub extern "C" fn sender_set_up(s: &mut Sender, z: PlainSetup) -> u32
+    ensures { λ r. ⌜ OpensLent z (now (s .exit)) r ⌝ }
+{
+    let r = opened(*s, z);
+    *s = r.sender;
+    r.answer
+}
+
+#[no_mangle]
+pub extern "C" fn sender_reserve(s: &mut Sender) -> Numbered
+    requires { ⌜ Valid (now s) ⌝ }
+    ensures { λ r. ⌜ ReservesLent (now (s .entry)) (now (s .exit)) r ⌝ }
+{
+    let r = reserved(*s);
+    *s = r.sender;
+    r.answer
+}
+
+#[no_mangle]
+pub extern "C" fn sender_release(s: &mut Sender, toi: u64) -> u32
+    requires { ⌜ Valid (now s) ⌝ }
+    ensures { λ r. ⌜ ReleasesLent toi (now (s .entry)) (now (s .exit)) r ⌝ }
+{
+    let r = released(*s, toi);
+    *s = r.sender;
+    r.answer
+}
+
+#[no_mangle]
+pub extern "C" fn sender_add(s: &mut Sender, o: PlainObject) -> Numbered
+    requires { ⌜ Valid (now s) ⌝ }
+    ensures { λ r. ⌜ AddsLent o (now (s .entry)) (now (s .exit)) r ⌝ }
+{
+    let r = added(*s, o);
+    *s = r.sender;
+    r.answer
+}
+
+#[no_mangle]
+pub extern "C" fn sender_remove(s: &mut Sender, toi: u64) -> bool
+    requires { ⌜ Valid (now s) ⌝ }
+    ensures { λ r. ⌜ Removes toi (now (s .entry)) (record { yes = r; sender = now (s .exit) }) ⌝ }
+{
+    let r = (*s).remove(toi);
+    *s = r.sender;
+    r.yes
+}
+
+#[no_mangle]
+pub extern "C" fn sender_trigger(s: &mut Sender, toi: u64, start: Time) -> bool
+    requires { ⌜ Valid (now s) ⌝ }
+    ensures { λ r. ⌜ Prompts toi start (now (s .entry)) (record { yes = r; sender = now (s .exit) }) ⌝ }
+{
+    let r = (*s).trigger(toi, start);
+    *s = r.sender;
+    r.yes
+}
+
+#[no_mangle]
+pub extern "C" fn sender_complete(s: &mut Sender)
+    requires { ⌜ Valid (now s) ⌝ }
+    ensures { λ _. ⌜ Completes (now (s .entry)) (now (s .exit)) ⌝ }
+{
+    let r = (*s).complete();
+    *s = r;
+}
+
+#[no_mangle]
+pub extern "C" fn sender_publish(s: &mut Sender, at: u64, part: Part) -> u32
+    requires { ⌜ Valid (now s) ⌝ }
+    ensures { λ r. ⌜ PublishesLent at part (now (s .entry)) (now (s .exit)) r ⌝ }
+{
+    let r = published(*s, at, part);
+    *s = r.sender;
+    r.answer
+}
+
+// The FDT session; a draft of length 0 is none.
+#[no_mangle]
+pub extern "C" fn sender_run_fdt(s: &mut Sender, at: u64, draft: Part) -> Sent
+    requires { ⌜ Valid (now s) ⌝ }
+    ensures { λ r. ⌜ RunsFdtLent at draft (now (s .entry)) (now (s .exit)) r ⌝ }
+{
+    let r = ran_fdt(*s, at, draft);
+    *s = r.sender;
+    r.answer
+}
+
+// File session i.
+#[no_mangle]
+pub extern "C" fn sender_run(s: &mut Sender, i: u64, at: u64) -> Sent
+    requires { ⌜ Valid (now s) ⌝ }
+    ensures { λ r. ⌜ RunsFileLent i at (now (s .entry)) (now (s .exit)) r ⌝ }
+{
+    let r = ran(*s, i, at);
+    *s = r.sender;
+    r.answer
+}
+
+// Is the object listed?
+#[no_mangle]
+pub extern "C" fn sender_listed(s: &Sender, toi: u64) -> bool
+    requires { ⌜ Valid (now s) ⌝ }
+    ensures { λ r. ⌜ Lists toi (now (s .entry)) r ⌝ }
+{
+    (*s).listed(toi)
+}
+
+// Its total transfers, where it is listed.
+#[no_mangle]
+pub extern "C" fn sender_transfers(s: &Sender, toi: u64) -> Counted
+    requires { ⌜ Valid (now s) ⌝ }
+    ensures { λ r. ⌜ TotalsTold toi (now (s .entry)) r ⌝ }
+{
+    counted(*s, toi)
+}

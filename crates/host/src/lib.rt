@@ -1,0 +1,3 @@
+// A sender that the host owns and lends.
+mod byvalue;
+pub mod calls;

@@ -1,0 +1,3 @@
+-- Named (what the host names), Told (what it is told).
+pub mod Named
+pub mod Told
