@@ -19,7 +19,7 @@ use text::Word;
 
 // What a line asks for.
 pub enum Command {
-    // an empty line or a comment
+    // an empty line, a comment, or what is answered already
     Skip,
     // no command
     Wrong,

@@ -5,6 +5,7 @@ mod print;
 mod reply;
 mod store;
 
+use crate::command::Command;
 use libc::STDIN_FILENO;
 
 // Answers each line of standard input, over two stores that are filled with known bytes.
@@ -31,9 +32,17 @@ fn answer_all<'a>(objects: &'a [u8], fdts: &'a [u8]) {
             return;
         }
         let line = text::part(buf, at.start, at.end);
-        desk = play::play(desk, command::read_command(line));
+        desk = play::play(desk, command_of(line));
         let reply = desk.reply;
         print::write_reply(objects, fdts, reply);
         turns -= 1;
     }
+}
+
+// What a line asks the desk for: nothing, where it is a command on records, which is answered here.
+fn command_of(line: &[u8]) -> Command {
+    if record_lines::answer(line) {
+        return Command::Skip;
+    }
+    command::read_command(line)
 }

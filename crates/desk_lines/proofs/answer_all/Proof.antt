@@ -34,8 +34,8 @@ returns c = search needs
 part-requires : tie.Need-part-requires Inv-loop μ-loop
 part-requires c κs = search needs
 
-read-command-requires : tie.Need-read-command-requires Inv-loop μ-loop
-read-command-requires c κs = search needs
+command-of-requires : tie.Need-command-of-requires Inv-loop μ-loop
+command-of-requires c κs = search needs
 
 play-requires : tie.Need-play-requires Inv-loop μ-loop
 play-requires c κs = search needs
@@ -69,7 +69,7 @@ answer-all-spec =
     take-line-requires
     returns
     part-requires
-    read-command-requires
+    command-of-requires
     play-requires
     write-reply-requires
     sub-turns

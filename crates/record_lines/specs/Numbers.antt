@@ -1,0 +1,16 @@
+-- The numbers of a command that writes a record. Assumes nothing.
+use mathlib.Core.Bool.{Bool, _&&_}
+use mathlib.Core.List.{List}
+use Prim.Native.Nat.{ℕ, _^_}
+use lib.Dec.{leb, ltb}
+use lib.ListN.{getD}
+
+-- two flags; the FDT id, the block and the symbol have 32 bits; the buffer has at most 64 bytes. The others have 64 bits as all numbers have
+unfoldable pub fit : List ℕ → Bool
+fit a =
+    leb (getD a 0 0) 1
+    && leb (getD a 1 0) 1
+    && ltb (getD a 2 0) (2 ^ 32)
+    && ltb (getD a 4 0) (2 ^ 32)
+    && ltb (getD a 5 0) (2 ^ 32)
+    && leb (getD a 9 0) 64
