@@ -1,2 +1,3 @@
--- What the proofs of the lent calls share.
+-- What the proofs of the lent calls share; and what is told of a packet.
 pub mod Rows
+pub mod PacketLaws
