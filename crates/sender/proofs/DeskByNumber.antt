@@ -7,7 +7,6 @@ use lib.Dec.{eqb}
 use Rattle.sizes.specs.Words.{if_then_else_, keep, place}
 use Rattle.sizes.specs.Allocator as Alloc
 use Rattle.sizes.specs.declared.toiallocator.ToiAllocator.{ToiAllocator}
-use Rattle.sizes.specs.declared.toiallocator.Changed.{Changed}
 use Rattle.sizes.proofs.Lists.{each-all, map-comm}
 use Rattle.lifecycle.specs.Lifecycle.{triggered}
 use Rattle.lifecycle.specs.FileDesc.{time-of, life-of, pace-said, with-life, reset-life}
@@ -33,14 +32,10 @@ use Rattle.sender.specs.SessionMeans.{SameSide}
 use Rattle.sender.specs.SenderCalls.{desk-of, Valid, Kept, with-list, removing-of, prompting-of}
 use Rattle.sender.specs.declared.sendersession.SenderSession.{SenderSession}
 use Rattle.sender.specs.declared.sender.Sender.{Sender}
+use Rattle.sender.proofs.DeskNumbers.{dropped-width}
 use Rattle.sender.proofs.DeskChanges.{sessions-moved, sessions-same, Stays, valid-list, agrees-list, desk-moved, listed-answer}
 
 -- ---- remove
-
--- a number that is let go leaves the width
-pub dropped-width : (flag : Bool) (t : ℕ) (a : ToiAllocator) → Alloc.dropped-of flag t a .allocator .width ≡ a .width
-unfolding Alloc.dropped-of Alloc.without
-dropped-width flag t a = maybe-on (λ (r : Changed). r .allocator .width ≡ a .width) (place (Alloc.entry-is t flag) (Alloc.noted a)) (λ e. refl) (λ i e. refl)
 
 -- remove leaves all but the objects
 module _ (t : ℕ) (f : Fdt) where

@@ -127,7 +127,7 @@ reserve-kept s v h g =
 
 -- ---- release
 
-dropped-width : (flag : Bool) (t : ℕ) (a : ToiAllocator) → Alloc.dropped-of flag t a .allocator .width ≡ a .width
+pub dropped-width : (flag : Bool) (t : ℕ) (a : ToiAllocator) → Alloc.dropped-of flag t a .allocator .width ≡ a .width
 unfolding Alloc.dropped-of Alloc.without
 dropped-width flag t a = maybe-on (λ (x : Changed). x .allocator .width ≡ a .width) (place (Alloc.entry-is t flag) (Alloc.noted a)) (λ e. refl) (λ i e. refl)
 

@@ -43,7 +43,7 @@ use Rattle.sender.proofs.SessionFacts.{stands-runs}
 use Rattle.sender.proofs.SessionViews.{ran-means, ran-hand, ran-counts, ran-stands, ran-session}
 use Rattle.sender.proofs.FdtSessionLaws.{fdt-holds-over}
 use Rattle.sender.proofs.DeskChanges.{working-stands}
-use Rattle.sender.proofs.DeskByNumber.{dropped-width}
+use Rattle.sender.proofs.DeskNumbers.{dropped-width}
 
 -- ---- the width of the numbers stays
 

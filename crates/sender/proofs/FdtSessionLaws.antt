@@ -302,7 +302,7 @@ begun-valid : (w id : ℕ) (c : Part) (z : Sizes) → w ≤ largest-window → G
 unfolding fdt-begun-of new-of
 begun-valid w id c z n g = new-sound c z w false (record { cut = refl; sizes = g .sizes; fits = g .fits }) n
 
-good-left : (z : Sizes) (draft : Draft) → GoodDraft z draft → (taken : Bool) → GoodDraft z (left-of draft taken)
+pub good-left : (z : Sizes) (draft : Draft) → GoodDraft z draft → (taken : Bool) → GoodDraft z (left-of draft taken)
 good-left z draft g true = tt
 good-left z draft g false = g
 

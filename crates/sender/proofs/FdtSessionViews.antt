@@ -37,7 +37,8 @@ use Rattle.sender.specs.declared.fdtsession.FdtSession.{FdtSession}
 use Rattle.sender.specs.declared.fdtsession.FdtRan.{FdtRan}
 use Rattle.sender.proofs.EncoderReads.{read-means}
 use Rattle.sender.proofs.EncoderPromises.{new-sound}
-use Rattle.sender.proofs.FdtSessionFacts.{fdt-idle-stands, objects-same, objects-on, next-taken, next-starts, next-announcer, next-objects, next-slots, holds-next, next-current, next-untaken, done-objects, done-slots, holds-fdt-done}
+use Rattle.sender.proofs.FdtSessionFacts.{fdt-idle-stands, objects-same, objects-on, next-taken, next-starts, next-announcer, next-objects, next-slots, next-untaken, done-objects, done-slots}
+use Rattle.sender.proofs.FdtSessionLaws.{fdt-holds-next, next-has-current, fdt-holds-done, good-left}
 
 -- where a run from list g is, once it has taken the draft or not
 record Reached (g : Fdt) (taken : Bool) (f : Fdt) : Type 0 where
@@ -95,10 +96,6 @@ after x y = record { busy = x .busy; id = x .id; encoder = y }
 draft-left : (draft : Draft) (taken : Bool) → draft-of (left-of draft taken) ≡ (if taken then none else draft-of draft)
 draft-left draft true = refl
 draft-left draft false = refl
-
-left-good : (z : Sizes) (draft : Draft) → GoodDraft z draft → (taken : Bool) → GoodDraft z (left-of draft taken)
-left-good z draft d true = tt
-left-good z draft d false = d
 
 left-untaken : (now : ℕ) (draft : Draft) (f : Fdt) (taken : Bool) → taken ≡ true → next-fdt-of now (left-of draft taken) f .taken ≡ false
 left-untaken now draft f true e = next-untaken now f
@@ -167,7 +164,7 @@ module _ (u : Setup) (w now : ℕ) (g : Fdt) (set : SetFor u w (g .settings)) (a
   sent-means taken f x re st = go (tested (x .busy))
     where
       done-reached : Reached g taken (fdt-done-of now f)
-      done-reached = record { holds = holds-fdt-done now f (re .holds); slots = done-slots now f ∙ re .slots; same = objects-on (re .same) (done-objects now f) }
+      done-reached = record { holds = fdt-holds-done now f (re .holds); slots = done-slots now f ∙ re .slots; same = objects-on (re .same) (done-objects now f) }
 
       reads : x .busy ≡ true → (r : Read) → Reads false (x .encoder) r → fdt-sent-of now taken f x ≡ fdt-sent-by now taken f x (r .encoder) (r .answer)
           → Def.fdt-send u now taken again (fdt-of f x) ≡ answered u now taken again f x (read-said false (x .encoder) .1) (read-said false (x .encoder) .0)
@@ -219,14 +216,14 @@ module _ (u : Setup) (w now : ℕ) (g : Fdt) (set : SetFor u w (g .settings)) (a
 
     next-reached : Reached g (taken || n .taken) (n .fdt)
     next-reached = record {
-      holds = holds-next now (left-of draft taken) f (re .holds) (left-good (f .settings .sizes) draft (subst (λ (z : Settings). GoodDraft (z .sizes) draft) (sym (re .same .settings)) good) taken);
+      holds = fdt-holds-next now (left-of draft taken) f (re .holds) (good-left (f .settings .sizes) draft (subst (λ (z : Settings). GoodDraft (z .sizes) draft) (sym (re .same .settings)) good) taken);
       slots = next-slots now (left-of draft taken) f ∙ ap (marked-slots (n .taken)) (re .slots) ∙ marked-once taken (n .taken) (g .slots) (left-untaken now draft f taken);
       same = objects-on (re .same) (next-objects now (left-of draft taken) f);
     }
 
     next-stands : x .busy ≡ false → FdtStands (n .fdt) w y
     next-stands b = subst (λ (z : Settings). FdtStands (n .fdt) w (begins w (z .sizes) x (n .fdt .announcer) (n .starts))) (next-objects now (left-of draft taken) f .settings)
-        (begins-stands w (n .fdt) x (n .starts) narrow (next-reached .holds) (next-current now (left-of draft taken) f) (st .idle b))
+        (begins-stands w (n .fdt) x (n .starts) narrow (next-reached .holds) (next-has-current now (left-of draft taken) f) (st .idle b))
 
     -- the definition sends the same after it
     abbrev sends-anew : Option Part → Def.FdtTurn

@@ -30,6 +30,7 @@ use Rattle.lifecycle.specs.declared.fdt.Fdt.{Fdt}
 use Rattle.lifecycle.proofs.SetupLaws.{told}
 use Rattle.lifecycle.proofs.PublishLaws.{valid-opened}
 use Rattle.definition.specs.Desk as Def
+use Rattle.sender.proofs.SessionFacts.{idle-stands}
 use Rattle.sender.specs.SessionCalls.{idle-of, session-of}
 use Rattle.sender.specs.SessionMeans.{Stands}
 use Rattle.sender.specs.SenderCalls.{desk-of, Agrees, Valid, slot-in}
@@ -199,9 +200,6 @@ abbrev four : (ℕ → ℕ) → List SenderSession
 four p = map idle-of (map p (0 ∷ 1 ∷ 2 ∷ 3 ∷ []))
 
 -- each has nothing in hand
-idle-stands : (f : Fdt) (w p : ℕ) → Stands f w (idle-of p)
-idle-stands f w p = record { busy = λ q. absurd (false≢true q); idle = λ q. refl }
-
 four-stand : (f : Fdt) (w : ℕ) (p : ℕ → ℕ) (i : ℕ) → Stands f w (getD (four p) i (idle-of 0))
 four-stand f w p zero = idle-stands f w (p 0)
 four-stand f w p (suc zero) = idle-stands f w (p 1)
