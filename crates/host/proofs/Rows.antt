@@ -13,6 +13,12 @@ use denote.Steps.{only}
 use denote.Struct.Laws as LL
 use Rattle.sender.proofs.sender.Sender as T
 use Rattle.sender.proofs.sender.Sender.Laws as T′
+use Rattle.sender.proofs.block.Open as B
+use Rattle.sender.proofs.block.Open.Laws as B′
+use Rattle.sender.proofs.sendersession.SenderSession as X
+use Rattle.sender.proofs.sendersession.SenderSession.Laws as X′
+use Rattle.lifecycle.proofs.slots.Slot as Y
+use Rattle.lifecycle.proofs.slots.Slot.Laws as Y′
 use Rattle.plain.proofs.told.Numbered as N
 use Rattle.plain.proofs.told.Numbered.Laws as N′
 use Rattle.plain.proofs.told.Sent as S
@@ -40,6 +46,15 @@ use Rattle.lent.proofs.Whole.{Data, Pair, struct-data, uint-data, bool-data}
 module _ {M : Type 1} (𝓤 : URA M) (H : Heap 𝓤) (A : Atoms 𝓤) (W : Given 𝓤 H A) where
   abbrev pub sender : Data 𝓤 H A T.the-row
   sender = struct-data 𝓤 H A W T.the-type T′.the-laws T′.the-plain (λ x. tt) (λ x w. refl)
+
+  abbrev pub session : Data 𝓤 H A X.the-row
+  session = struct-data 𝓤 H A W X.the-type X′.the-laws X′.the-plain (λ x. tt) (λ x w. refl)
+
+  abbrev pub block : Data 𝓤 H A B.the-row
+  block = struct-data 𝓤 H A W B.the-type B′.the-laws B′.the-plain (λ x. tt) (λ x w. refl)
+
+  abbrev pub slot : Data 𝓤 H A Y.the-row
+  slot = struct-data 𝓤 H A W Y.the-type Y′.the-laws Y′.the-plain (λ x. tt) (λ x w. refl)
 
   abbrev pub numbered : Data 𝓤 H A N.the-row
   numbered = struct-data 𝓤 H A W N.the-type N′.the-laws N′.the-plain (λ x. tt) (λ x w. refl)

@@ -10,6 +10,7 @@ use crate::byvalue::ran;
 use crate::byvalue::ran_fdt;
 use crate::byvalue::released;
 use crate::byvalue::reserved;
+use brief::quick::glance;
 use lifecycle::filedesc::Time;
 use lifecycle::parts::Part;
 use plain::named::PlainObject;
@@ -109,12 +110,32 @@ pub extern "C" fn sender_run_fdt(s: &mut Sender, at: u64, draft: Part) -> Sent
     r.answer
 }
 
-// File session i.
+// File session i. In the middle of a transfer four numbers are stored; where nothing but the session changes, only it is.
 #[no_mangle]
 pub extern "C" fn sender_run(s: &mut Sender, i: u64, at: u64) -> Sent
     requires { ⌜ Valid (now s) ⌝ }
     ensures { λ r. ⌜ RunsFileLent i at (now (s .entry)) (now (s .exit)) r ⌝ }
 {
+    if i < 4 {
+        let j = i as usize;
+        let x = s.sessions[j];
+        let k = x.slot;
+        let t = s.fdt.slots[k];
+        let q = s.fdt.announcer.waiting;
+        let g = glance(x, t, q, at);
+        if g.done {
+            let p = g.place;
+            s.sessions[j].encoder.window[p].esi = g.esi;
+            s.sessions[j].encoder.index = g.next;
+            s.sessions[j].pace.due = g.due;
+            return g.answer;
+        }
+        let f = brief::settle(x, t, q, at);
+        if f.done {
+            s.sessions[j] = f.session;
+            return f.answer;
+        }
+    }
     let r = ran(*s, i, at);
     *s = r.sender;
     r.answer

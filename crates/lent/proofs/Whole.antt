@@ -84,13 +84,13 @@ pub record Pair {M : Type 1} (𝓤 : URA M) (H : Heap 𝓤) (A : Atoms 𝓤) {S 
 
 -- a share of the whole value's cell, with its relation in hand; and back
 module _ {M : Type 1} (𝓤 : URA M) (H : Heap 𝓤) (A : Atoms 𝓤) (W : Given 𝓤 H A) (R : RattleType) (D : Data 𝓤 H A R) (q : Share) (y : R .Denot) (b o : ℕ) where
-  cell-of : ent 𝓤 (sem 𝓤 H A (partAt R q y b o)) (guard 𝓤 (Is R y (D .mach y ∷ [])) (sem 𝓤 H A (fat q (lone (R .mir)) b o (D .mach y))))
+  pub cell-of : ent 𝓤 (sem 𝓤 H A (partAt R q y b o)) (guard 𝓤 (Is R y (D .mach y ∷ [])) (sem 𝓤 H A (fat q (lone (R .mir)) b o (D .mach y))))
   cell-of = qed W (‵ (partAt R q y b o) ∷ []) {P = guard 𝓤 (Is R y (D .mach y ∷ [])) (sem 𝓤 H A (fat q (lone (R .mir)) b o (D .mach y)))} (
       use1 W (some (λ (w : Val). ‵ (fat q (lone (R .mir)) b o w) ⊛ ‵ (R .own y (w ∷ [])))) (part-out 𝓤 H A W R (D .one) q y b o) $ pick ! (λ w. split ! $ move ! (1 ∷ []) $
       peeks ! R (Is R) (shows 𝓤 H A R) y (w ∷ []) (λ is. check ! (subst (λ (ws : List Val). Is R y ws) (D .tells y (w ∷ []) is) is) $
       rewrite ! 1 (λ (cv : Val). ‵ (fat q (lone (R .mir)) b o cv)) (ap only (D .tells y (w ∷ []) is)) refl $ keep ! (1 ∷ []) $ done !)))
 
-  of-cell : Is R y (D .mach y ∷ []) → ent 𝓤 (sem 𝓤 H A (fat q (lone (R .mir)) b o (D .mach y))) (sem 𝓤 H A (partAt R q y b o))
+  pub of-cell : Is R y (D .mach y ∷ []) → ent 𝓤 (sem 𝓤 H A (fat q (lone (R .mir)) b o (D .mach y))) (sem 𝓤 H A (partAt R q y b o))
   of-cell is = qed W (‵ (fat q (lone (R .mir)) b o (D .mach y)) ∷ []) {P = sem 𝓤 H A (partAt R q y b o)} (
       owned ! R (Is R) (D .makes) y (D .mach y ∷ []) is $ move ! (1 ∷ 0 ∷ []) $ use2 W (‵ (partAt R q y b o)) (part-in 𝓤 H A W R (D .one) q y b o (D .mach y)) $ done !)
 

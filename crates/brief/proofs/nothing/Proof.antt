@@ -1,0 +1,15 @@
+use mathlib.Core.Path.{ap}
+use borrow.Author.Needs.{needs}
+use Rattle.plain.specs.declared.told.Sent.{Sent}
+use Rattle.brief.specs.declared.Settled.{Settled}
+use Rattle.brief.proofs.nothing.Statement.{statement}
+use Rattle.brief.proofs.nothing.Tie as tie
+
+told-run-requires : tie.Need-told-run-requires
+told-run-requires c κs = search needs
+
+returns : tie.Need-returns
+returns c = rw (c .told-run .ensures)
+
+pub nothing-spec : {M : Type 1} → statement M
+nothing-spec = tie.close (tie.spec told-run-requires returns)

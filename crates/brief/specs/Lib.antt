@@ -1,0 +1,3 @@
+-- A run that changes nothing but the session: Brief, and Quick where only numbers of it change.
+pub mod Brief
+pub mod Quick
