@@ -13,7 +13,7 @@ use Rattle.lifecycle.specs.Lifecycle.{triggered, too-early, expired, finished, 
 use Rattle.lifecycle.specs.Setup.{Setup}
 use Rattle.definition.specs.FdtSession.{Fdt, FdtTurn, Packet, fdt-published, fdt-run}
 use Rattle.definition.specs.Session.{Object, Hand, Session, living, startable, begin, put-back, forced, Turn, idle, sent, serve, go-on, take-on, file-run}
-use Rattle.definition.specs.Desk.{Desk, Request, Call, Answer, opening, objects, numbers, is, moved, numbered, with-fdt, in-hand, marked, marked-hand, all-published, unlisted, removed, prompted, reserved, toi-for, made, admitted, not-loose, full, add-refusal, publish-refusal, draft-refusal, draft-of, unless, ran, step, run, unloosed, fdt-queued, fdt-ran}
+use Rattle.definition.specs.Desk.{Desk, Request, Call, Answer, opening, is, moved, numbered, with-fdt, in-hand, marked, marked-hand, all-published, unlisted, removed, prompted, reserved, toi-for, made, admitted, not-loose, full, add-refusal, publish-refusal, draft-refusal, draft-of, unless, ran, step, unloosed, fdt-queued, fdt-ran}
 use Rattle.definition.specs.Apart.{mine, noted}
 use Rattle.definition.proofs.View.{retag, seen, seen-append, seen-other}
 use Rattle.sizes.specs.Words.{Each}

@@ -11,7 +11,7 @@ use Rattle.definition.specs.Desk.{Desk, Call, Answer, opening, objects, 
 use Rattle.definition.specs.TotalPromises.{Unique, Given, Admitted, Reachable, Totals}
 use Rattle.lifecycle.proofs.SetupLaws.{told}
 use Rattle.definition.proofs.Weights.{total-length, none-yet, bound-step}
-use Rattle.definition.proofs.Numbers.{admissible, room, unique-step, unique-opening, none-held, given-once, held-from, Ranged, ranged-step, ranged-opening, entries-step}
+use Rattle.definition.proofs.Numbers.{admissible, room, unique-step, unique-opening, none-held, given-once, held-from, ranged-step, ranged-opening, entries-step}
 use Rattle.definition.proofs.Everywhere.{each-opening}
 use Rattle.definition.proofs.Came.{came-run}
 use Rattle.definition.proofs.PartLaws.{apart-step, admitted-step}
@@ -66,9 +66,6 @@ reachable-run s e l = reachable-from s (opening s) l e (reachable-opening s e)
 
 pub unique-run : (s : Setup) → sound s ≡ true → (l : List Call) → Unique s (run s (opening s) l .1)
 unique-run s e l = reachable-run s e l .unique
-
-pub ranged-run : (s : Setup) → sound s ≡ true → (l : List Call) → Ranged s (run s (opening s) l .1)
-ranged-run s e l = reachable-run s e l .ranged
 
 pub given-once-run : (s : Setup) → sound s ≡ true → (l : List Call) (c : Call) (t : ℕ) → step s (run s (opening s) l .1) c .0 ≡ Answer.number t → Given (run s (opening s) l .1) c t
 given-once-run s e l c t h = given-once s (run s (opening s) l .1) c t (unique-run s e l) h

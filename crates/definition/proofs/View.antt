@@ -5,15 +5,14 @@ use mathlib.Core.Option.{Option, none, some}
 use mathlib.Core.List.{List, [], _∷_, _++_, map}
 use Prim.Native.Nat.{ℕ}
 use lib.Dec.{eqb}
-use Rattle.sizes.specs.Words.{if_then_else_, maybe, keep, has, find, drop-first}
+use Rattle.sizes.specs.Words.{if_then_else_, maybe, keep, find, drop-first}
 use Rattle.definition.specs.Encoder.{Symbol, read}
 use Rattle.lifecycle.specs.Lifecycle.{too-early, expired, finished, may-start}
 use Rattle.lifecycle.specs.Setup.{Setup}
 use Rattle.definition.specs.Session.{Object, Hand, Session, living, startable, begin, put-back, forced, Turn, idle, sent, serve, go-on, take-on, file-run}
-use Rattle.definition.specs.Desk.{is}
 use Rattle.definition.specs.Apart.{mine, packet-by}
 use Rattle.sizes.specs.Words.{over, Each}
-use Rattle.sizes.proofs.Tests.{pass, and-left}
+use Rattle.sizes.proofs.Tests.{and-left}
 use Rattle.sizes.proofs.Lists.{found}
 
 -- the object under another number

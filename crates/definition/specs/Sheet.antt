@@ -135,7 +135,7 @@ Script = List (Call × List ℕ)
 unfoldable pub Plays : Script → Type 0
 Plays l = map show (run setup (opening setup) (map (λ r. r .0) l) .0) ≡ map (λ r. r .1) l
 
--- reserve, add by name, add anew; nothing before publish; the object is taken while the FDT is queued, and sent after it
+-- reserve, add by name, add anew; nothing before publish, and nothing empty is published; the object is taken while the FDT is queued, and sent after it
 unfoldable pub first-run : Script
 first-run =
     (Call.reserve, 1 ∷ 65_534 ∷ [])
@@ -145,6 +145,7 @@ first-run =
     ∷ (Call.add (some 5) (object 3 30 2 2), 0 ∷ 6 ∷ [])
     ∷ (Call.add none (object 4 30 2 2), 0 ∷ 2 ∷ [])
     ∷ (Call.run-file 100 0, 5 ∷ 0 ∷ [])
+    ∷ (Call.publish 100 (bytes 0 0), 0 ∷ 5 ∷ [])
     ∷ (Call.publish 100 (bytes 0 2), 9 ∷ [])
     ∷ (Call.run-file 100 0, 5 ∷ 0 ∷ [])
     ∷ (Call.run-fdt 100 none, 4 ∷ 0 ∷ 0x100000 ∷ 0 ∷ 0 ∷ 0 ∷ 0 ∷ 2 ∷ 0 ∷ [])
@@ -163,8 +164,9 @@ first-run =
     ∷ (Call.run-file 100 2, 0 ∷ 8 ∷ [])
     ∷ []
 
--- five objects, marked by one publish; the draft beside it is not taken. The second leaves the queue's middle; the first repeats after more than 1000, and once more by a trigger.
--- The fourth is paced by 500; the first is removed while it is sent. A sixth, empty, is marked by a draft that is taken once the validity has run out
+-- five objects, marked by one publish; the draft beside it is not taken. The second leaves the queue's middle; the first repeats after more than 1000, and once more by a trigger, from 1300 on.
+-- The fourth is paced by 500; the first is removed while it is sent. A sixth, empty, is marked by a draft that is taken once the validity has run out; another is too long (4) before it is out of its store (5).
+-- After completion nothing is added, numbers go on, and what is being sent is sent to its end
 unfoldable pub long-run : Script
 long-run =
     (Call.add none (object-with 7 0 2 1 (some (Carousel.delay 1000)) Target.at-once), 1 ∷ 65_534 ∷ [])
@@ -176,6 +178,7 @@ long-run =
     ∷ (Call.publish 100 (bytes 0 2), 9 ∷ [])
     ∷ (Call.run-fdt 100 (some (bytes 10 2)), 4 ∷ 0 ∷ 0x100000 ∷ 0 ∷ 0 ∷ 0 ∷ 0 ∷ 2 ∷ 0 ∷ [])
     ∷ (Call.remove 65_535, 2 ∷ 1 ∷ [])
+    ∷ (Call.trigger 65_535 none, 2 ∷ 0 ∷ [])
     ∷ (Call.run-file 100 0, 4 ∷ 0 ∷ 0 ∷ 65_534 ∷ 0 ∷ 0 ∷ 0 ∷ 2 ∷ 0 ∷ [])
     ∷ (Call.run-file 200 0, 4 ∷ 0 ∷ 0 ∷ 1 ∷ 0 ∷ 0 ∷ 20 ∷ 2 ∷ 1 ∷ [])
     ∷ (Call.run-file 300 0, 4 ∷ 0 ∷ 0 ∷ 3 ∷ 0 ∷ 0 ∷ 50 ∷ 2 ∷ 1 ∷ [])
@@ -184,18 +187,23 @@ long-run =
     ∷ (Call.run-file 1201 0, 4 ∷ 0 ∷ 0 ∷ 65_534 ∷ 0 ∷ 0 ∷ 0 ∷ 2 ∷ 0 ∷ [])
     ∷ (Call.run-file 1202 0, 5 ∷ 0 ∷ [])
     ∷ (Call.transfers 65_534, 3 ∷ 2 ∷ [])
-    ∷ (Call.trigger 65_534 none, 2 ∷ 1 ∷ [])
-    ∷ (Call.run-file 1203 0, 4 ∷ 0 ∷ 0 ∷ 65_534 ∷ 0 ∷ 0 ∷ 0 ∷ 2 ∷ 0 ∷ [])
+    ∷ (Call.trigger 65_534 (some 1300), 2 ∷ 1 ∷ [])
+    ∷ (Call.run-file 1299 0, 5 ∷ 0 ∷ [])
+    ∷ (Call.run-file 1300 0, 4 ∷ 0 ∷ 0 ∷ 65_534 ∷ 0 ∷ 0 ∷ 0 ∷ 2 ∷ 0 ∷ [])
     ∷ (Call.run-file 2000 1, 4 ∷ 0 ∷ 0 ∷ 2 ∷ 0 ∷ 0 ∷ 30 ∷ 2 ∷ 0 ∷ [])
     ∷ (Call.run-file 2499 1, 5 ∷ 0 ∷ [])
     ∷ (Call.run-file 2500 1, 4 ∷ 0 ∷ 0 ∷ 2 ∷ 0 ∷ 1 ∷ 32 ∷ 2 ∷ 0 ∷ [])
     ∷ (Call.run-file 3000 1, 4 ∷ 0 ∷ 0 ∷ 2 ∷ 0 ∷ 0 ∷ 30 ∷ 2 ∷ 0 ∷ [])
     ∷ (Call.remove 65_534, 2 ∷ 1 ∷ [])
+    ∷ (Call.listed 65_534, 2 ∷ 0 ∷ [])
     ∷ (Call.add none (object 7 40 0 1), 1 ∷ 4 ∷ [])
+    ∷ (Call.add none (object 7 40 300_000 1), 0 ∷ 4 ∷ [])
     ∷ (Call.run-file 3001 0, 5 ∷ 0 ∷ [])
     ∷ (Call.run-fdt 10_000_000_099 (some (bytes 10 2)), 5 ∷ 0 ∷ [])
     ∷ (Call.run-fdt 10_000_000_100 (some (bytes 10 2)), 4 ∷ 1 ∷ 1 ∷ 0 ∷ 0 ∷ 0 ∷ 10 ∷ 2 ∷ 0 ∷ [])
     ∷ (Call.run-file 10_000_000_101 0, 4 ∷ 0 ∷ 0 ∷ 4 ∷ 0 ∷ 0 ∷ 40 ∷ 0 ∷ 1 ∷ [])
     ∷ (Call.complete, 9 ∷ [])
     ∷ (Call.add none (object 7 50 2 1), 0 ∷ 3 ∷ [])
+    ∷ (Call.reserve, 1 ∷ 5 ∷ [])
+    ∷ (Call.run-file 10_000_000_102 1, 4 ∷ 0 ∷ 0 ∷ 2 ∷ 0 ∷ 1 ∷ 32 ∷ 2 ∷ 1 ∷ [])
     ∷ []

@@ -31,19 +31,32 @@ fn write_line<'a>(objects: &'a [u8], fdts: &'a [u8], reply: Reply) {
     io::write_all(STDOUT_FILENO, text::part(out, 0, end));
 }
 
-// Puts the text of a reply at the front of out, and answers where it ends.
-fn put_reply<'a>(out: &mut [u8], objects: &'a [u8], fdts: &'a [u8], reply: Reply) -> usize {
+// A reply that is one word.
+fn put_word(out: &mut [u8], reply: Reply) -> usize {
     match reply {
-        Reply::Silent => 0,
         Reply::Error => text::put_text(out, 0, b"error"),
         Reply::Done => text::put_text(out, 0, b"ok"),
-        Reply::Refused(n) => put_named(out, b"refused ", n),
-        Reply::Toi(n) => put_named(out, b"toi ", n),
         Reply::Yes => text::put_text(out, 0, b"yes"),
         Reply::No => text::put_text(out, 0, b"no"),
-        Reply::Number(n) => text::put_number(out, 0, n),
         Reply::Missing => text::put_text(out, 0, b"none"),
         Reply::Nothing => text::put_text(out, 0, b"nothing"),
+        _ => 0,
+    }
+}
+
+// A reply of one number, or of one word.
+fn put_short(out: &mut [u8], reply: Reply) -> usize {
+    match reply {
+        Reply::Refused(n) => put_named(out, b"refused ", n),
+        Reply::Toi(n) => put_named(out, b"toi ", n),
+        Reply::Number(n) => text::put_number(out, 0, n),
+        _ => put_word(out, reply),
+    }
+}
+
+// Puts the text of a reply at the front of out, and answers where it ends; a transfer's lines are written elsewhere.
+fn put_reply<'a>(out: &mut [u8], objects: &'a [u8], fdts: &'a [u8], reply: Reply) -> usize {
+    match reply {
         Reply::Sent(p) => put_packet(out, p, payload_sum(objects, fdts, p)),
         Reply::NoFdt(taken) => {
             let at = text::put_text(out, 0, b"nothing");
@@ -54,12 +67,7 @@ fn put_reply<'a>(out: &mut [u8], objects: &'a [u8], fdts: &'a [u8], reply: Reply
             put_taken(out, at, taken)
         }
         Reply::Cut(p) => put_partition(out, p),
-        Reply::Drained {
-            l: _,
-            e: _,
-            b: _,
-            w: _,
-        } => 0,
+        _ => put_short(out, reply),
     }
 }
 

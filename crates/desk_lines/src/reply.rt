@@ -1,5 +1,4 @@
 // What a line of a script is answered.
-ghost use mathlib.Core.Path.{_≡_};
 ghost use Rattle.sizes.specs.Allocator.{given-said, known-said};
 ghost use Rattle.lifecycle.specs.FdtCalls.{publication-said};
 ghost use Rattle.sender.specs.SenderCalls.{alloc-answer, add-answer, file-answer, fdt-answer};

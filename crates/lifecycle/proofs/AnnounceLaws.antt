@@ -241,10 +241,6 @@ module _ (a : Announcer) where
       go (pass e) = rw e
       go (fail e) = rw e
 
-pub state-opening : (id : ℕ) → state-of (opening-of id) ≡ record { next-id = id; last = none; waiting = []; current = none }
-unfolding state-of
-state-opening id = refl
-
 -- one FDT that starts, and one that ends
 instance-started : (s : Setup) (r : Rule) (now : ℕ) (i : Instance) → plan-of r ≡ fdt-plan s → instance-of (started-instance r now i) ≡ begun s now (instance-of i)
 unfolding started-life

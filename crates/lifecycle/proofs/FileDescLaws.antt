@@ -10,7 +10,7 @@ use borrow.Author.Tests.{eq-eqb, ne-eqb, eqb-true, eqb-false, ltb-true, ltb-fals
 use Rattle.sizes.proofs.Tests.{Tested, pass, fail, tested}
 use Rattle.lifecycle.specs.Lifecycle.{repeats, is-last}
 use Rattle.lifecycle.specs.Lifecycle as Def
-use Rattle.lifecycle.specs.FileDesc.{time-of, target-of, plan-of, life-of, pace-said, carousel-named, target-named, unborn-of, started-life, done-life, published-life, reset-life, rule-named, with-carousel, with-target, no-pace, duration-of, pace-at, ticked-of}
+use Rattle.lifecycle.specs.FileDesc.{time-of, target-of, plan-of, life-of, pace-said, carousel-named, target-named, started-life, done-life, published-life, reset-life, rule-named, with-carousel, with-target, no-pace, duration-of, pace-at, ticked-of}
 use Rattle.sizes.specs.Words.{if_then_else_, maybe, given}
 use Rattle.sizes.specs.Limits.{wide}
 use Rattle.lifecycle.specs.declared.filedesc.Pace.{Pace}
@@ -96,9 +96,6 @@ life-reset t x = ap (λ f. record { published = x .published; count = x .count; 
     start : (b : Bool) → time-of (if b then record { known = b; at = t .at } else x .«named_start») ≡ maybe (time-of (x .«named_start»)) some (if b then some (t .at) else none)
     start true = refl
     start false = refl
-
-pub life-unborn : (t : Time) → life-of (unborn-of t) ≡ Def.unborn false (time-of t)
-life-unborn t = refl
 
 -- what is asked is what the inputs name
 pub plan-named : (most : ℕ) (c : Carousel) (t : Target) (stop : Bool)

@@ -6,13 +6,12 @@ use mathlib.Core.List.{List, [], _∷_, _++_, map}
 use Prim.Native.Nat.{ℕ, _+_, _-_, _<_}
 use lib.Dec.{eqb, ltb}
 use lib.ListN.{length, getD}
-use Rattle.sizes.specs.Words.{if_then_else_, maybe, given, collect, keep, cut, has, place, times}
+use Rattle.sizes.specs.Words.{if_then_else_, maybe, given, collect, keep, cut, has, place, times, Hit}
 use Rattle.sizes.specs.Limits.{toi-entries}
 use Rattle.sizes.specs.Allocator as Alloc
+use Rattle.sizes.specs.Allocator.{Freed}
 use Rattle.sizes.specs.declared.partition.Sizes.{Sizes}
 use Rattle.sizes.specs.declared.toiallocator.ToiAllocator.{ToiAllocator}
-use Rattle.sizes.proofs.Lists.{Hit}
-use Rattle.sizes.proofs.AllocatorViews.{Freed}
 use Rattle.lifecycle.specs.FileDesc.{with-life, started-life, reset-life, published-life, file-new, startable-file}
 use Rattle.lifecycle.specs.Slots.{no-slot, slot-at, place-said, is-free, is-listed-as}
 use Rattle.lifecycle.specs.FdtCalls.{waiting, files, sends, used, refuses, ended-file, goes-back}

@@ -1,7 +1,7 @@
 // The objects that are held, the queue of those that wait, their numbers, and the FDT side (src/sender/fdt.rs).
 ghost use mathlib.Core.Path.{_≡_};
 ghost use mathlib.Core.Bool.{true, false};
-ghost use Prim.Native.Nat.{ℕ, _<_, _≤_};
+ghost use Prim.Native.Nat.{_<_, _≤_};
 ghost use lib.Dec.{eqb};
 ghost use lib.ListN.{take};
 ghost use Rattle.sizes.specs.Words.{place, shut, Each};

@@ -86,16 +86,6 @@ pub filled-keeps : (P : BlockEncoder → Type 0) → ((x : BlockEncoder) → has
 unfolding filled-of
 filled-keeps P step x p = opened-keeps P step (missing x) x refl p
 
-pub filled-room : (x : BlockEncoder) → has-room (filled-of x) ≡ false
-unfolding filled-of
-filled-room x = go (missing x) x refl
-  where
-    go : (n : ℕ) (x : BlockEncoder) → n ≡ missing x → has-room (opened-of n x) ≡ false
-    go zero x e = no-room x (sym e)
-    go (suc n) x e =
-        let m = missing-less x (missing-room x n e) in
-        go n (one-opened x) (omega arith)
-
 -- ---- what stays an encoder of its object
 
 -- a place is set to a block of what is sent, and the others are such blocks

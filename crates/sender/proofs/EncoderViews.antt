@@ -17,7 +17,6 @@ use Rattle.sizes.proofs.Tests.{and-left, and-right}
 use Rattle.sizes.proofs.Lists.{map-set, map-append, map-cut, at-map}
 use Rattle.sizes.proofs.Arrays.{take-shut}
 use Rattle.sizes.proofs.Collects.{at-inside}
-use Rattle.lifecycle.proofs.FdtFacts.{if-on}
 use Rattle.definition.specs.Encoder as Def
 use Rattle.sender.specs.EncoderCalls.{open-said, opened-blocks, encoder-of, symbol-said, emitted-said, no-open, open-at, is-empty, Valid, has-room, one-opened, opened-of, filled-of, place-of, stuck, without-of, offset-of, closes-of, next-symbol, visit-of, moved-of, emptied-of}
 use Rattle.sender.specs.declared.block.Open.{Open}
@@ -198,7 +197,3 @@ emptied-view x = if-both said (x .begun || not (eqb (x .content .part .size) 0))
 -- whether a packet was sent and whether one was forced is free
 pub valid-flags : (x : BlockEncoder) → Valid x → (begun stopped : Bool) → Valid (record { content = x .content; width = x .width; closable = x .closable; begun = begun; stopped = stopped; next = x .next; filled = x .filled; index = x .index; window = x .window })
 valid-flags x v begun stopped = record { content = v .content; narrow = v .narrow; filled = v .filled; next = v .next; long = v .long; each = v .each; clear = v .clear }
-
-pub valid-emptied : (x : BlockEncoder) → Valid x → Valid (emptied-of x .encoder)
-unfolding emptied-of
-valid-emptied x v = if-on (λ (r : Read). Valid (r .encoder)) (x .begun || not (eqb (x .content .part .size) 0)) (λ e. v) (λ e. valid-flags x v true (x .stopped))

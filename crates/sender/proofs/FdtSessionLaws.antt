@@ -13,7 +13,6 @@ use Rattle.sizes.specs.Words.{if_then_else_, given, has, place, first-of}
 use Rattle.sizes.specs.Limits.{wide, longest-store, toi-entries, waiting-fdts, largest-window}
 use Rattle.sizes.specs.Allocator as Alloc
 use Rattle.sizes.specs.declared.partition.Sizes.{Sizes}
-use Rattle.sizes.specs.declared.toiallocator.ToiAllocator.{ToiAllocator}
 use Rattle.sizes.proofs.Tests.{Tested, pass, fail, tested, and-left, or-left, none≢some}
 use Rattle.sizes.proofs.Arrays.{getD-shut}
 use Rattle.lifecycle.specs.Parts.{past-store}
@@ -23,7 +22,7 @@ use Rattle.lifecycle.specs.FileDesc.{plan-of, life-of}
 use Rattle.lifecycle.specs.Announce as Ann
 use Rattle.lifecycle.specs.Announce.{draft-of, no-instance, FdtValid, fdt-rule, needs-new-of, first-instance, queued-of, front-of, started-instance, done-instance, holding, start-of, republished-of, transferring-of, next-of, shares-fdt-of, bad-fdt-of}
 use Rattle.lifecycle.specs.Slots.{slot-at, is-free, queue-startable}
-use Rattle.lifecycle.specs.FdtCalls.{waiting, sends, completed-of, reserved-of, released-of, own-of, bad-part-of, put-of, named-of, fresh-of, numbered-of, added-of, listed-place, unlisted-of, freed-of, removed-of, triggered-of, taken-at, taken-of, goes-back, back-of, let-go-of, done-of, publish-of, draft-test-of, next-fdt-of, fdt-done-of, opening-fdt}
+use Rattle.lifecycle.specs.FdtCalls.{waiting, sends, completed-of, reserved-of, released-of, own-of, bad-part-of, put-of, named-of, fresh-of, numbered-of, added-of, listed-place, unlisted-of, freed-of, removed-of, triggered-of, taken-at, taken-of, goes-back, back-of, let-go-of, done-of, publish-of, draft-test-of, next-fdt-of, fdt-done-of}
 use Rattle.lifecycle.specs.FdtCalls.{Valid as ListValid}
 use Rattle.lifecycle.specs.declared.parts.Part.{Part}
 use Rattle.lifecycle.specs.declared.filedesc.Time.{Time}
@@ -42,7 +41,6 @@ use Rattle.lifecycle.specs.declared.fdt.Added.{Added}
 use Rattle.lifecycle.specs.declared.fdt.Told.{Told}
 use Rattle.lifecycle.specs.declared.fdt.Taken.{Taken}
 use Rattle.lifecycle.specs.declared.fdt.Published.{Published}
-use Rattle.lifecycle.specs.declared.fdt.Settings.{Settings}
 use Rattle.lifecycle.proofs.AnnounceLaws.{needed-empty}
 use Rattle.lifecycle.proofs.PublishLaws.{valid-publish, valid-next-fdt, valid-fdt-done}
 use Rattle.lifecycle.proofs.FdtFacts.{maybe-on, if-on}
@@ -177,16 +175,6 @@ pub done-settings : (now : ℕ) (f : Fdt) → fdt-done-of now f .settings ≡ f 
 unfolding fdt-done-of
 done-settings now f = refl
 
-pub published-settings : (now : ℕ) (c : Part) (f : Fdt) → publish-of now c f .fdt .settings ≡ f .settings
-unfolding publish-of
-published-settings now c f =
-    if-on Kept (bad-blocks (f .settings .sizes) (c .size)) (λ e. refl) (λ e.
-    if-on Kept (bad-fdt-of (f .settings .«fdt_store») c (f .announcer) || eqb (c .size) 0) (λ e. refl) (λ e.
-    if-on Kept (leb waiting-fdts (f .announcer .waiting)) (λ e. refl) (λ e. refl)))
-  where
-    Kept : Published → Type 0
-    Kept r = r .fdt .settings ≡ f .settings
-
 -- ---- a part that was looked at
 
 -- it lies in the FDT store
@@ -230,10 +218,6 @@ pub record SameSide (f r : Fdt) : Type 0 where
 
 pub fdt-holds-over : (f r : Fdt) → FdtHolds f → ListValid r → SameSide f r → FdtHolds r
 fdt-holds-over f r h v s = parts-hold r v (subst (λ z. Parts (z .sizes) (r .announcer)) (sym (s .settings)) (subst (Parts (f .settings .sizes)) (sym (s .announcer)) (holds-parts f h)))
-
-pub fdt-holds-opening : (z : Settings) (a : ToiAllocator) (id : ℕ) → ListValid (opening-fdt z a id) → FdtHolds (opening-fdt z a id)
-unfolding opening-fdt
-fdt-holds-opening z a id v = record { valid = v; waiting = λ i h. absurd (omega arith); current = λ e. absurd (false≢true e) }
 
 module _ (f : Fdt) where
   same : SameSide f f

@@ -20,11 +20,11 @@ use Rattle.sender.specs.declared.block.Open.{Open}
 use Rattle.sender.specs.declared.blockencoder.Content.{Content}
 
 -- what admitted sizes tell
-pub record Admitted (z : Sizes) (l : ℕ) : Type 0 where
+pub record SizesTold (z : Sizes) (l : ℕ) : Type 0 where
   pub sizes : SoundSizes z
   pub blocks : blocks-of z l .blocks ≤ most-blocks
 
-pub admitted : (z : Sizes) (l : ℕ) → bad-blocks z l ≡ false → Admitted z l
+pub admitted : (z : Sizes) (l : ℕ) → bad-blocks z l ≡ false → SizesTold z l
 unfolding bad-blocks
 admitted z l e =
     record {
@@ -39,7 +39,7 @@ module _ (c : Content) (s : Sound c) where
   abbrev e : ℕ
   e = c .sizes .e
 
-  pub told : Admitted (c .sizes) l
+  pub told : SizesTold (c .sizes) l
   told = admitted (c .sizes) l (s .sizes)
 
   pub cut-up : Parted (c .sizes .b) l e (c .partition)

@@ -4,17 +4,15 @@ use mathlib.Core.Bool.{Bool, true, false, _||_, false≢true}
 use mathlib.Core.Logic.{_⊎_, inl, inr}
 use mathlib.Core.Option.{Option, none, some}
 use mathlib.Core.List.{List, [], _∷_, map}
-use Prim.Native.Nat.{ℕ, zero, suc, _+_, _≤_, _<_}
+use Prim.Native.Nat.{ℕ, _+_, _≤_, _<_}
 use native.Mathlib.Omega.{arith}
 use lib.Dec.{eqb, leb}
 use borrow.Author.Tests.{eq-eqb, ltb-false}
-use lib.ListN.{replicate}
 use lib.Seq.{getD-set-same}
 use denote.Enum.Declared.{tagOf}
 use Rattle.sizes.specs.Words.{if_then_else_, first-of, any}
 use Rattle.sizes.specs.Limits.{object-slots, largest-window, longest-store, waiting-fdts}
 use Rattle.sizes.specs.declared.partition.Sizes.{Sizes}
-use Rattle.sizes.specs.declared.toiallocator.ToiAllocator.{ToiAllocator}
 use Rattle.sizes.proofs.Tests.{or-left, none≢some}
 use Rattle.sizes.proofs.Tables.{inside, other}
 use Rattle.lifecycle.specs.Setup.{bad-blocks}
@@ -23,7 +21,7 @@ use Rattle.lifecycle.specs.Lifecycle.{is-last, too-early}
 use Rattle.lifecycle.specs.FileDesc.{plan-of, life-of, with-life, reset-life, pace-said}
 use Rattle.lifecycle.specs.Slots.{no-slot, slot-at, holds-byte, published-slot}
 use Rattle.lifecycle.specs.Announce.{fdt-rule, next-of, bad-fdt-of, waits-of}
-use Rattle.lifecycle.specs.FdtCalls.{sends, used, completed-of, reserved-of, released-of, own-of, bad-part-of, refusal, added-of, listed-place, removed-of, triggered-of, taken-of, done-of, publish-of, next-fdt-of, fdt-done-of, opening-fdt}
+use Rattle.lifecycle.specs.FdtCalls.{sends, used, completed-of, reserved-of, released-of, own-of, bad-part-of, refusal, added-of, listed-place, removed-of, triggered-of, taken-of, done-of, publish-of, next-fdt-of, fdt-done-of}
 use Rattle.lifecycle.specs.FdtCalls.{Valid as ListValid}
 use Rattle.lifecycle.specs.FdtMeans.{Seen, Adds, refused, admits, unknown, full, Removal, nobody, sent, waited, Takes, nothing, takes, is-taken, Ends, idle, back, gone}
 use Rattle.lifecycle.specs.declared.parts.Part.{Part}
@@ -35,7 +33,6 @@ use Rattle.lifecycle.specs.declared.slots.Place.{Place}
 use Rattle.lifecycle.specs.declared.slots.Place.the-variants as PlaceV
 use Rattle.lifecycle.specs.declared.announce.Draft.{Draft}
 use Rattle.lifecycle.specs.declared.fdt.Fdt.{Fdt}
-use Rattle.lifecycle.specs.declared.fdt.Settings.{Settings}
 use Rattle.lifecycle.specs.declared.fdt.Request.{Request}
 use Rattle.lifecycle.specs.declared.fdt.Named.{Named}
 use Rattle.lifecycle.specs.declared.fdt.Added.{Added}
@@ -202,16 +199,6 @@ module _ (f : Fdt) (h : Holds f) where
           let o = ltb-false (f .settings .«object_store») (q .part .start + q .part .size) (or-left (past-store (f .settings .«object_store») (q .part)) (any (holds-byte (q .part)) (f .slots)) (p .0)) in
           holds-seen f h (r .fdt) v (w .view) (λ u. record { sizes = s .0; fits = omega arith })
 
--- at set-up nothing is held
-pub holds-opened : (z : Settings) (a : ToiAllocator) (id : ℕ) → ListValid (opening-fdt z a id) → Holds (opening-fdt z a id)
-unfolding opening-fdt
-holds-opened z a id v = record { valid = v; good = λ k. subst GoodSlot (sym (blank object-slots k)) good-free }
-  where
-    blank : (m k : ℕ) → slot-at (replicate m no-slot) k ≡ no-slot
-    blank zero k = refl
-    blank (suc m) zero = refl
-    blank (suc m) (suc k) = blank m k
-
 -- ---- an object is taken in hand
 
 module _ (f : Fdt) (v : ListValid f) (p now k : ℕ) (e : taken-of p now f .answer ≡ PlaceV.At k) where
@@ -317,7 +304,3 @@ module _ (w now : ℕ) (n : w ≤ largest-window) where
       go z k Over = runs-taken-on (done-of now (x .slot) f) (holds-done f h now (x .slot)) (idle-of (x .priority)) refl
       go z k Idle = runs-by f h x z k Idle
       go z k (Sent s) = runs-by f h x z k (Sent s)
-
-pub runs-ran : (w now : ℕ) (f : Fdt) (x : SenderSession) → Runs f w x → Runs (ran-of w now f x .fdt) w (ran-of w now f x .session)
-unfolding ran-of
-runs-ran w now f x r = if-on (λ (a : Ran). Runs (a .fdt) w (a .session)) (x .busy) (λ e. runs-again w now (r .narrow) f (r .holds) x (r .busy e)) (λ e. runs-taken-on w now (r .narrow) f (r .holds) x e)

@@ -3,7 +3,6 @@ ghost use mathlib.Core.Path.{_≡_};
 ghost use Rattle.definition.specs.Payload.{payload-of};
 ghost use Rattle.sender.specs.SenderCalls.{packet-in};
 use crate::sender::RunAnswer;
-use lifecycle::parts::Part;
 use lifecycle::parts::ends_past;
 
 // The part that a run's answer names, of the FDT store or the object store; the empty part of the object store where the store does not have it or there is no packet.

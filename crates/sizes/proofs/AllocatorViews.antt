@@ -9,7 +9,7 @@ use lib.Dec.{eqb}
 use borrow.Author.Tests.{eqb-true, not-true, lt-ltb, le-ltb}
 use Rattle.sizes.specs.Words.{if_then_else_, maybe, given, keep, has, at, place, collect, one-if, times}
 use Rattle.sizes.specs.Limits.{toi-entries}
-use Rattle.sizes.specs.Allocator.{noted, held, loose-in, bound-in, loose, bound, entry-is, opening, noting, moved-on, allocated-of, bound-at, without, unchanged, changed, claimed-of, dropped-of, Valid}
+use Rattle.sizes.specs.Allocator.{noted, held, loose-in, bound-in, loose, bound, entry-is, opening, noting, moved-on, allocated-of, bound-at, without, unchanged, changed, claimed-of, dropped-of, Freed, Valid}
 use Rattle.sizes.specs.declared.toiallocator.Entry.{Entry}
 use Rattle.sizes.specs.declared.toiallocator.ToiAllocator.{ToiAllocator}
 use Rattle.sizes.proofs.Tests.{and-left, and-right}
@@ -91,12 +91,6 @@ pub record Claimed (t : ℕ) (a b : ToiAllocator) : Type 0 where
   pub next-same : b .next ≡ a .next
   pub loose-left : loose b ≡ but t (loose a)
   pub one-more : (n : ℕ) → times n (bound b) ≡ times n (bound a) + one-if (eqb t n)
-
--- an object's number is gone
-pub record Freed (t : ℕ) (a b : ToiAllocator) : Type 0 where
-  pub next-same : b .next ≡ a .next
-  pub loose-same : loose b ≡ loose a
-  pub one-less : (n : ℕ) → times n (bound b) + one-if (eqb t n) ≡ times n (bound a)
 
 module _ (a : ToiAllocator) (v : Valid a) where
   noted-given : (flag : Bool) → a .entered < toi-entries → noted (moved-on (noting flag a)) ≡ noted a ++ (record { toi = a .next; loose = flag } ∷ [])

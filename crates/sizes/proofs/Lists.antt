@@ -1,6 +1,6 @@
 -- Laws of lists: what a search comes to, how often a number stands in a list, a place left out.
 use mathlib.Core.Path.{_≡_, refl, sym, _∙_, ap, subst}
-use mathlib.Core.Bool.{Bool, true, false, not, _||_, true≢false, false≢true}
+use mathlib.Core.Bool.{Bool, true, false, _||_, true≢false, false≢true}
 use mathlib.Core.Option.{none, some}
 use mathlib.Core.List.{List, [], _∷_, _++_, map}
 use Prim.Native.Nat.{ℕ, zero, suc, _+_, _≤_, _<_}
@@ -8,17 +8,10 @@ use native.Mathlib.Omega.{arith}
 use lib.Dec.{eqb}
 use borrow.Author.Tests.{eqb-true}
 use lib.ListN.{length, set, getD, take}
-use Rattle.sizes.specs.Words.{if_then_else_, over, keep, any, find, drop-first, first-of, at, cut, place, Each, has, one-if, times}
+use Rattle.sizes.specs.Words.{if_then_else_, over, keep, any, find, drop-first, first-of, at, cut, place, Each, has, one-if, times, Hit}
 use Rattle.sizes.proofs.Tests.{Tested, pass, fail, tested, none≢some}
 
 -- what a search comes to
-pub record Hit {A : Type 0} (ok : A → Bool) (l : List A) (n : ℕ) (a : A) : Type 0 where
-  pub found : place ok l ≡ some n
-  pub stands : at l n ≡ some a
-  pub passes : ok a ≡ true
-  pub first : find ok l ≡ some a
-  pub rest : drop-first ok l ≡ cut l n
-
 pub data Sought {A : Type 0} (ok : A → Bool) (l : List A) : Type 0 where
   hit : (n : ℕ) (a : A) → Hit ok l n a → Sought ok l
   miss : place ok l ≡ none → ((i : ℕ) (a : A) → at l i ≡ some a → ok a ≡ false) → Sought ok l

@@ -32,7 +32,3 @@ or-right false b e = e
 
 pub none≢some : {A : Type 0} {a : A} → none ≡ some a → ⊥
 none≢some e = let z : _≡_ {A = ℕ} 0 1 = cc in omega arith
-
-pub or-same : (a b : Bool) → a ≡ false → (a || b) ≡ b
-or-same true b e = absurd (true≢false e)
-or-same false b e = refl

@@ -1,13 +1,12 @@
 // The allocator of object numbers (src/sender/toiallocator.rs).
 ghost use mathlib.Core.Path.{_≡_};
 ghost use mathlib.Core.Bool.{true, false};
-ghost use Prim.Native.Nat.{ℕ, _+_, _-_, _<_, _≤_, _%_, _^_};
-ghost use lib.ListN.{take};
+ghost use Prim.Native.Nat.{_+_, _-_, _<_, _%_, _^_};
 ghost use Rattle.sizes.specs.Words.{has, place, shut};
-ghost use Rattle.sizes.specs.Toi.{skip-zero, free-from, next-toi};
+ghost use Rattle.sizes.specs.Toi.{skip-zero, next-toi};
 ghost use Rattle.sizes.specs.Toi.{after as Toi·after};
 ghost use Rattle.sizes.specs.Allocator.{loose as Allocator·loose};
-ghost use Rattle.sizes.specs.Allocator.{bits, Width, held, noted, entry-is, no-entry, place-said, Searchable, opening, noting, moved-on, without, claimed-of, dropped-of, Valid, Opened, Gives, Becomes};
+ghost use Rattle.sizes.specs.Allocator.{bits, Width, held, noted, entry-is, no-entry, place-said, Searchable, noting, claimed-of, dropped-of, Valid, Opened, Gives, Becomes};
 
 // How wide the numbers are.
 pub enum ToiMaxLength {

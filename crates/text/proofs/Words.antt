@@ -32,9 +32,6 @@ unfolding same
 same-self [] = refl
 same-self (x ∷ a) = rw (eq-eqb x x refl) (same-self a)
 
-pub equal-same : (a b : List ℕ) → a ≡ b → same a b ≡ true
-equal-same a b e = rw (← e) (same-self a)
-
 pub unlike-lengths : (a b : List ℕ) → (length a ≡ length b → ⊥) → same a b ≡ false
 unlike-lengths a b h = ⊎-elim (λ (t : same a b ≡ true). absurd (h (ap length (same-equal a b t)))) (λ (t : same a b ≡ false). t) (bool-cases (same a b))
 

@@ -11,7 +11,7 @@ use lib.Dec.{eqb}
 use lib.Pow.{pow-add, pow-pos}
 use lib.ListN.{length, take, drop, length-drop}
 use lib.Seq.{drop-drop, take-all}
-use Rattle.sizes.specs.Words.{if_then_else_, one-if}
+use Rattle.sizes.specs.Words.{one-if}
 use Rattle.sizes.proofs.Tests.{Tested, pass, fail, tested, and-left}
 use Rattle.wire.specs.Packing.{Field, widths, values, total, join, fits, split, fields, bytes-of, number-of}
 use Rattle.wire.specs.Record.{bits, layout, with-values, padding, record-widths, record-size, well-named, good, written, values-in, writable, write-answer, write-buffer, Writes, readable, read-answer, Reads}

@@ -1,5 +1,4 @@
 use native.Mathlib.Omega.{arith}
-use borrow.Author.Needs.{needs}
 use Rattle.sender.proofs.SenderKept.{read-session}
 use Rattle.sender.proofs.sender.Sender.session_at.Statement.{statement}
 use Rattle.sender.proofs.sender.Sender.session_at.Tie as tie
