@@ -1,8 +1,8 @@
 /* A sender for a host in C: the functions of libhost.a (`rt staticlib host`; x86-64 Linux).
 
    The host owns an sd_sender and lends it to each call. It keeps to this:
-   - sender_set_up fills it, and comes first. Before that, zeros may stand there.
-   - A set-up that is refused leaves no sender: only sender_set_up may be called on it then.
+   - sender_set_up fills it, and comes first: the other calls need a sender that an accepted set-up filled. Before that, zeros may stand there.
+   - A refused call, a set-up too, leaves what stood there.
    - Nothing but these calls writes into it, and nothing touches or copies it while a call runs: one thread at a time.
      It holds no address, so between two calls it may be moved.
    - A `bool` is 0 or 1, and no pointer is null. A call has 128 KiB of stack: about 100 are used at most.

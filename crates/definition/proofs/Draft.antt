@@ -13,10 +13,10 @@ use Rattle.sizes.proofs.Tests.{and-left, none≢some}
 use Rattle.lifecycle.specs.declared.parts.Part.{Part}
 use Rattle.lifecycle.specs.Lifecycle.{may-start, started, finished}
 use Rattle.lifecycle.specs.Setup.{Setup}
-use Rattle.lifecycle.specs.Fdt.{FdtState, Instance, Next, fdt-plan, queued, runs-out, needs-new, takes-draft, republished, front-taken, with-current, start-current, next-fdt, fdt-done}
+use Rattle.lifecycle.specs.Fdt.{FdtState, Instance, Next, fdt-plan, id-after, queued, runs-out, needs-new, takes-draft, republished, front-taken, with-current, start-current, next-fdt, fdt-done}
 use Rattle.definition.specs.Encoder.{Symbol, fresh, read}
 use Rattle.definition.specs.FdtSession.{Fdt, FdtTurn, FdtHand, Packet, fdt-send, fdt-attempt, fdt-idle, fdt-run}
-use Rattle.definition.specs.Promises.{id-after, packet-id, DraftTold}
+use Rattle.definition.specs.Promises.{packet-id, DraftTold}
 use Rattle.definition.proofs.Rounds.{first-read}
 
 -- ---- asking for the next FDT

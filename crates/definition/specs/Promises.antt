@@ -3,10 +3,10 @@ use mathlib.Core.Path.{_≡_}
 use mathlib.Core.Bool.{Bool, true, false}
 use mathlib.Core.Option.{Option, none, some}
 use mathlib.Core.List.{List}
-use Prim.Native.Nat.{ℕ, zero, suc, _+_, _%_, _≤_}
+use Prim.Native.Nat.{ℕ, zero, suc, _+_, _≤_}
 use lib.ListN.{length}
 use Rattle.sizes.specs.Words.{if_then_else_, maybe, given, at}
-use Rattle.sizes.specs.Limits.{largest-fdt-id}
+use Rattle.lifecycle.specs.Fdt.{id-after}
 use Rattle.sizes.specs.declared.partition.Sizes.{Sizes}
 use Rattle.lifecycle.specs.declared.parts.Part.{Part}
 use Rattle.lifecycle.specs.Setup.{Setup, sound}
@@ -76,10 +76,6 @@ abbrev pub FdtRoundsEnough : Type 0
 FdtRoundsEnough = (n : ℕ) (s : Setup) (now : ℕ) (draft : Option Part) (f : Fdt) → 1 ≤ s .window → 1 ≤ s .sizes .e → 1 ≤ s .sizes .b → fdt-loop n s now draft f ≡ fdt-run s now draft f
 
 -- ---- the draft of an FDT run
-
--- the FDT id after this one
-abbrev pub id-after : ℕ → ℕ
-id-after n = (n + 1) % (largest-fdt-id + 1)
 
 -- the FDT id that a packet has, if there is one
 abbrev pub packet-id : Option Packet → Option ℕ

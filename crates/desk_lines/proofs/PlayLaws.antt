@@ -14,7 +14,7 @@ use Rattle.sender.specs.SenderCalls.{Valid}
 use Rattle.sender.specs.declared.sender.Sender.{Sender}
 use Rattle.sender.specs.declared.setup.Setup.{Setup}
 use Rattle.desk_lines.specs.Commands.{setup-named}
-use Rattle.desk_lines.specs.Plays.{asked, reply-with, Plays, Calls, SetsUp, Shut, Answers, Begins}
+use Rattle.desk_lines.specs.Plays.{asked, alone, reply-with, Plays, Calls, SetsUp, Shut, Answers, Begins, Stays}
 use Rattle.desk_lines.specs.declared.command.Command.{Command}
 use Rattle.desk_lines.specs.declared.command.Command.the-variants as CommandV
 use Rattle.desk_lines.specs.declared.command.Opening.{Opening}
@@ -97,6 +97,39 @@ answers-shut t v h =
       shut = λ l f o. h;
       nowhere = λ f. rw t h;
     }
+
+-- a command that needs no sender; a call of one, and a set-up
+pub stays-as : {c : Command} {d r : Desk} {y : Reply} → alone c ≡ some y → r ≡ reply-with (d .«open») (d .sender) y → Stays c d r
+stays-as {c} {d} {r} {y} e h = record { stays = λ z f. let q : y ≡ z = cc in h ∙ ap (reply-with (d .«open») (d .sender)) q }
+
+pub stays-none : {c : Command} {d r : Desk} → alone c ≡ none → Stays c d r
+stays-none e = record { stays = λ y f. clash (cc) }
+
+-- the places of the calls
+abbrev pub calls : List ℕ
+calls = 4 ∷ 5 ∷ 6 ∷ 7 ∷ 8 ∷ 9 ∷ 10 ∷ 11 ∷ 12 ∷ 13 ∷ 14 ∷ 15 ∷ []
+
+pub not-alone : (c : Command) → OneOf calls (tagOf the-type c) → alone c ≡ none
+not-alone CommandV.Skip h = absurd (miss calls 0 tt h)
+not-alone CommandV.Wrong h = refl
+not-alone (CommandV.Setup x) h = refl
+not-alone CommandV.SetupOut h = refl
+not-alone CommandV.Reserve h = refl
+not-alone (CommandV.Release t) h = refl
+not-alone (CommandV.Add o named) h = refl
+not-alone CommandV.AddNowhere h = refl
+not-alone (CommandV.Remove t) h = refl
+not-alone (CommandV.Trigger t start) h = refl
+not-alone (CommandV.Publish clock part) h = refl
+not-alone CommandV.Complete h = refl
+not-alone (CommandV.Listed t) h = refl
+not-alone (CommandV.Transfers t) h = refl
+not-alone (CommandV.RunFdt clock draft) h = refl
+not-alone (CommandV.Run i clock) h = refl
+not-alone (CommandV.Partition l e b) h = absurd (miss calls 16 tt h)
+not-alone (CommandV.BlockLength l e b k) h = absurd (miss calls 17 tt h)
+not-alone (CommandV.RawLength large small bigs l e k) h = absurd (miss calls 18 tt h)
+not-alone (CommandV.Drain l e b w) h = absurd (miss calls 19 tt h)
 
 -- a command is not one at another place
 pub elsewhere : (ks : List ℕ) (c k : Command) → OneOf ks (tagOf the-type c) → T (not (hasKey ks (tagOf the-type k))) → c ≡ k → ⊥

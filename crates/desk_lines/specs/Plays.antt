@@ -4,8 +4,9 @@ use mathlib.Core.Bool.{Bool, true, false}
 use mathlib.Core.Option.{Option, none, some}
 use Prim.Native.Nat.{ℕ}
 use Rattle.sizes.specs.Words.{if_then_else_}
+use Rattle.sizes.specs.Partition.{partition-of, block-length, sizes-given}
 use Rattle.lifecycle.specs.FileDesc.{time-of}
-use Rattle.lifecycle.specs.Announce.{draft-of}
+use Rattle.lifecycle.specs.Announce.{draft-given}
 use Rattle.lifecycle.specs.declared.announce.Draft.{Draft}
 use Rattle.lifecycle.specs.declared.fdt.Named.{Named}
 use Rattle.lifecycle.specs.declared.filedesc.Time.{Time}
@@ -17,7 +18,7 @@ use Rattle.sender.specs.declared.sender.Object.{Object}
 use Rattle.sender.specs.declared.sender.Sender.{Sender}
 use Rattle.sender.specs.declared.setup.Setup.{Setup}
 use Rattle.desk_lines.specs.Commands.{setup-named}
-use Rattle.desk_lines.specs.Replies.{Says, set-up-said}
+use Rattle.desk_lines.specs.Replies.{Says, set-up-said, length-shown}
 use Rattle.desk_lines.specs.declared.command.Command.{Command}
 use Rattle.desk_lines.specs.declared.command.Command.the-variants as CommandV
 use Rattle.desk_lines.specs.declared.command.Opening.{Opening}
@@ -53,7 +54,7 @@ abbrev pub asks-publish : ℕ → Part → Def.Call
 asks-publish clock part = Def.Call.publish clock part
 
 abbrev pub asks-run-fdt : ℕ → Draft → Def.Call
-asks-run-fdt clock draft = Def.Call.run-fdt clock (draft-of draft)
+asks-run-fdt clock draft = Def.Call.run-fdt clock (draft-given draft)
 
 abbrev pub asks-run : ℕ → ℕ → Def.Call
 asks-run i clock = Def.Call.run-file clock i
@@ -116,6 +117,33 @@ pub record Answers (c : Command) (d r : Desk) : Type 0 where
   pub played : (k : Def.Call) → asked c ≡ some k → d .«open» ≡ true → Plays k (d .sender) r
   pub shut : (k : Def.Call) → asked c ≡ some k → d .«open» ≡ false → r ≡ reply-with false (d .sender) ReplyV.Error
   pub nowhere : c ≡ CommandV.AddNowhere → r ≡ (if d .«open» then reply-with true (d .sender) (ReplyV.Refused 2) else reply-with false (d .sender) ReplyV.Error)
+
+-- the reply to a command that needs no sender: an empty line or a comment, a partition, a block's length, a transfer's lines
+abbrev pub alone : Command → Option Reply
+alone CommandV.Skip = some ReplyV.Silent
+alone CommandV.Wrong = none
+alone (CommandV.Setup x) = none
+alone CommandV.SetupOut = none
+alone CommandV.Reserve = none
+alone (CommandV.Release t) = none
+alone (CommandV.Add o named) = none
+alone CommandV.AddNowhere = none
+alone (CommandV.Remove t) = none
+alone (CommandV.Trigger t start) = none
+alone (CommandV.Publish clock part) = none
+alone CommandV.Complete = none
+alone (CommandV.Listed t) = none
+alone (CommandV.Transfers t) = none
+alone (CommandV.RunFdt clock draft) = none
+alone (CommandV.Run i clock) = none
+alone (CommandV.Partition l e b) = some (ReplyV.Cut (partition-of b l e))
+alone (CommandV.BlockLength l e b k) = let p = partition-of b l e in some (length-shown (block-length (sizes-given (p .large) (p .small) (p .bigs)) l e k))
+alone (CommandV.RawLength large small bigs l e k) = some (length-shown (block-length (sizes-given large small bigs) l e k))
+alone (CommandV.Drain l e b w) = some (ReplyV.Drained l e b w)
+
+-- of such a command: that reply, and nothing changes
+pub record Stays (c : Command) (d r : Desk) : Type 0 where
+  pub stays : (y : Reply) → alone c ≡ some y → r ≡ reply-with (d .«open») (d .sender) y
 
 -- of a set-up, and of a line that cannot be read
 pub record Begins (c : Command) (d r : Desk) : Type 0 where

@@ -2,6 +2,7 @@
 use mathlib.Core.Path.{_≡_}
 use mathlib.Core.Bool.{Bool, true, false}
 use mathlib.Core.Option.{Option, none, some}
+use Prim.Native.Nat.{ℕ}
 use Rattle.sizes.specs.Words.{if_then_else_}
 use Rattle.lifecycle.specs.FdtCalls.{transfers-said}
 use Rattle.lifecycle.specs.declared.fdt.Transfers.{Transfers}
@@ -37,6 +38,11 @@ set-up-said ok = if ok then Def.Answer.done else Def.Answer.refused 1
 
 abbrev pub truth-said : Bool → Def.Answer
 truth-said b = Def.Answer.truth b
+
+-- the reply to a block's length, if it has one
+abbrev pub length-shown : Option ℕ → Reply
+length-shown none = ReplyV.Missing
+length-shown (some n) = ReplyV.Number n
 
 abbrev pub total-said : Transfers → Def.Answer
 total-said t = Def.Answer.transferred (transfers-said t)

@@ -1,8 +1,9 @@
 // The commands of a script, played on one sender.
 ghost use mathlib.Core.Path.{_≡_};
-ghost use Rattle.sizes.specs.Partition.{partition-of};
+ghost use Rattle.sizes.specs.Partition.{partition-of, block-length, sizes-given};
 ghost use Rattle.sender.specs.SenderCalls.{Valid};
-ghost use Rattle.desk_lines.specs.Plays.{Plays, Calls, SetsUp, Shut, Answers, Begins, reply-with, asks-reserve, asks-release, asks-add, asks-remove, asks-trigger, asks-listed, asks-transfers, asks-complete, asks-publish, asks-run-fdt, asks-run};
+ghost use Rattle.desk_lines.specs.Replies.{length-shown};
+ghost use Rattle.desk_lines.specs.Plays.{Plays, Calls, SetsUp, Shut, Answers, Begins, Stays, reply-with, asks-reserve, asks-release, asks-add, asks-remove, asks-trigger, asks-listed, asks-transfers, asks-complete, asks-publish, asks-run-fdt, asks-run};
 use crate::command::Command;
 use crate::command::setup_of;
 use crate::reply::Reply;
@@ -258,7 +259,7 @@ fn no_sessions() -> Setup {
 // The desk after a command, with the reply to it.
 pub(crate) fn play(d: Desk, c: Command) -> Desk
     requires { ⌜ Valid (d .sender) ⌝ }
-    ensures { λ r. ⌜ Answers c d r × Begins c d r ⌝ }
+    ensures { λ r. ⌜ Answers c d r × Begins c d r × Stays c d r ⌝ }
 {
     let s = d.sender;
     match c {
@@ -287,12 +288,16 @@ fn partition(l: u64, e: u64, b: u64) -> Reply
     Reply::Cut(sizes::partition::block_partitioning(b, l, e))
 }
 
-fn block_length(l: u64, e: u64, b: u64, sbn: Sbn) -> Reply {
+fn block_length(l: u64, e: u64, b: u64, sbn: Sbn) -> Reply
+    ensures { λ r. ⌜ r ≡ length-shown (block-length (sizes-given (partition-of b l e .large) (partition-of b l e .small) (partition-of b l e .bigs)) l e sbn) ⌝ }
+{
     let p = sizes::partition::block_partitioning(b, l, e);
     raw_length(p.large, p.small, p.bigs, l, e, sbn)
 }
 
-fn raw_length(large: u64, small: u64, bigs: u64, l: u64, e: u64, sbn: Sbn) -> Reply {
+fn raw_length(large: u64, small: u64, bigs: u64, l: u64, e: u64, sbn: Sbn) -> Reply
+    ensures { λ r. ⌜ r ≡ length-shown (block-length (sizes-given large small bigs) l e sbn) ⌝ }
+{
     let n = sizes::partition::block_length(large, small, bigs, l, e, sbn);
     crate::reply::length_reply(n)
 }

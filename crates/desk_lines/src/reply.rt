@@ -1,8 +1,10 @@
 // What a line of a script is answered.
+ghost use mathlib.Core.Path.{_≡_};
 ghost use Rattle.sizes.specs.Allocator.{given-said, known-said};
+ghost use Rattle.sizes.specs.Partition.{length-said};
 ghost use Rattle.lifecycle.specs.FdtCalls.{publication-said};
 ghost use Rattle.sender.specs.SenderCalls.{alloc-answer, add-answer, file-answer, fdt-answer};
-ghost use Rattle.desk_lines.specs.Replies.{Says, set-up-said, truth-said, total-said};
+ghost use Rattle.desk_lines.specs.Replies.{Says, set-up-said, truth-said, total-said, length-shown};
 use lifecycle::fdt::Publication;
 use lifecycle::fdt::Transfers;
 use sender::sender::AddAnswer;
@@ -124,7 +126,9 @@ pub fn fdt_reply(taken: bool, a: RunAnswer) -> Reply
     }
 }
 
-pub fn length_reply(a: BlockLength) -> Reply {
+pub fn length_reply(a: BlockLength) -> Reply
+    ensures { λ r. ⌜ r ≡ length-shown (length-said a) ⌝ }
+{
     match a {
         BlockLength::Bytes(n) => Reply::Number(n),
         BlockLength::Nothing => Reply::Missing,

@@ -1,6 +1,7 @@
 -- What each call promises on a sender that the host lends.
 use mathlib.Core.Path.{_≡_}
 use Prim.Native.Nat.{ℕ}
+use Rattle.sizes.specs.Words.{if_then_else_}
 use Rattle.lifecycle.specs.declared.parts.Part.{Part}
 use Rattle.lifecycle.specs.declared.announce.Draft.the-variants as DraftV
 use Rattle.lifecycle.specs.declared.fdt.Transfers.{Transfers}
@@ -47,9 +48,9 @@ RunsFdtLent now c s = Lent (RunsFdt now (DraftV.Given c) s) (λ (r : Running). r
 abbrev pub RunsFileLent : ℕ → ℕ → Sender → Sender → Sent → Type 0
 RunsFileLent i now s = Lent (RunsFile i now s) (λ (r : Running). r .sender) (λ (r : Running). run-told (r .taken) (r .answer))
 
--- of a set-up, whatever stood there before
-abbrev pub OpensLent : PlainSetup → Sender → ℕ → Type 0
-OpensLent z = Lent (Opens (setup-in z)) (λ (r : Opened). r .sender) (λ (r : Opened). open-told (r .ok))
+-- of a set-up: a refused one leaves what stood there
+abbrev pub OpensLent : PlainSetup → Sender → Sender → ℕ → Type 0
+OpensLent z s = Lent (Opens (setup-in z)) (λ (r : Opened). if r .ok then r .sender else s) (λ (r : Opened). open-told (r .ok))
 
 -- the sender stays
 pub record TotalsTold (t : ℕ) (s : Sender) (answer : Counted) : Type 0 where

@@ -5,6 +5,7 @@ use mathlib.Core.Option.{Option, none, some}
 use mathlib.Core.List.{List}
 use Prim.Native.Nat.{ℕ}
 use lib.ListN.{length, take, drop}
+use Rattle.sizes.specs.Partition.{sbn, esi}
 use Rattle.sizes.specs.Words.{if_then_else_, maybe, over}
 use Rattle.lifecycle.specs.Parts.{past-store}
 use Rattle.lifecycle.specs.declared.parts.Part.{Part}
@@ -72,8 +73,8 @@ fields-told r = record {
   «is_fdt» = r .«is_fdt»;
   close = r .close;
   «fdt_id» = r .«fdt_id»;
-  block = r .block .0;
-  symbol = r .symbol .0;
+  block = r .block;
+  symbol = r .symbol;
   toi = r .toi;
   length = r .length;
   total = r .total;
@@ -82,7 +83,7 @@ fields-told r = record {
 
 -- refused: zeros stand for the fields
 abbrev pub unread : ℕ → PlainRecord
-unread n = record { refused = n; «is_fdt» = false; close = false; «fdt_id» = 0; block = 0; symbol = 0; toi = 0; length = 0; total = 0; symbols = 0 }
+unread n = record { refused = n; «is_fdt» = false; close = false; «fdt_id» = 0; block = sbn 0; symbol = esi 0; toi = 0; length = 0; total = 0; symbols = 0 }
 
 abbrev pub reading-told : Reading → PlainRecord
 reading-told (ReadingV.Fields r) = fields-told r

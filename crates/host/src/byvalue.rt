@@ -114,16 +114,17 @@ pub(crate) fn ran(s: Sender, i: u64, now: u64) -> Sending
     }
 }
 
-// What stood there before does not matter.
-pub(crate) fn opened(_s: Sender, z: PlainSetup) -> Refusing
-    ensures { λ r. ⌜ OpensLent z (r .sender) (r .answer) ⌝ }
+// A refused set-up leaves what stood there.
+pub(crate) fn opened(s: Sender, z: PlainSetup) -> Refusing
+    ensures { λ r. ⌜ OpensLent z s (r .sender) (r .answer) ⌝ }
 {
     let r = set_up(setup_in(z));
-    let sender = r.sender;
-    Refusing {
-        answer: told_open(r.ok),
-        sender,
+    let answer = told_open(r.ok);
+    if r.ok {
+        let sender = r.sender;
+        return Refusing { answer, sender };
     }
+    Refusing { answer, sender: s }
 }
 
 pub(crate) fn counted(s: Sender, toi: u64) -> Counted

@@ -20,10 +20,10 @@ use plain::told::Numbered;
 use plain::told::Sent;
 use sender::sender::Sender;
 
-// Fills the sender. Any may stand there before, as one of zeros.
+// Fills the sender; a refused set-up leaves what stood there, as zeros.
 #[no_mangle]
 pub extern "C" fn sender_set_up(s: &mut Sender, z: PlainSetup) -> u32
-    ensures { λ r. ⌜ OpensLent z (now (s .exit)) r ⌝ }
+    ensures { λ r. ⌜ OpensLent z (now (s .entry)) (now (s .exit)) r ⌝ }
 {
     let r = opened(*s, z);
     *s = r.sender;

@@ -9,6 +9,8 @@ use packet_record::PacketRecord;
 use packet_record::record_of;
 use plain::told::Sent;
 use sender::sender::RunAnswer;
+use sizes::numbers::Esi;
+use sizes::numbers::Sbn;
 use wire::record::Reading;
 use wire::record::Record;
 use wire::record::Writing;
@@ -30,8 +32,8 @@ pub struct PlainRecord {
     pub is_fdt: bool,
     pub close: bool,
     pub fdt_id: u32,
-    pub block: u32,
-    pub symbol: u32,
+    pub block: Sbn,
+    pub symbol: Esi,
     pub toi: u64,
     pub length: u64,
     pub total: u64,
@@ -68,8 +70,8 @@ fn told_fields(r: Record) -> PlainRecord
         is_fdt: r.is_fdt,
         close: r.close,
         fdt_id: r.fdt_id,
-        block: block.0,
-        symbol: symbol.0,
+        block,
+        symbol,
         toi: r.toi,
         length: r.length,
         total: r.total,
@@ -87,8 +89,8 @@ fn told_reading(a: Reading) -> PlainRecord
             is_fdt: false,
             close: false,
             fdt_id: 0,
-            block: 0,
-            symbol: 0,
+            block: Sbn(0),
+            symbol: Esi(0),
             toi: 0,
             length: 0,
             total: 0,

@@ -23,7 +23,7 @@ use Rattle.lifecycle.specs.Setup.{Setup}
 use Rattle.lifecycle.specs.FileDesc.{time-of, plan-of, life-of, started-life, done-life}
 use Rattle.lifecycle.specs.Fdt as Def
 use Rattle.lifecycle.specs.Fdt.{FdtState, fdt-plan, fdt-parts, bad-fdt-part, queued, seconds, runs-out, needs-new, takes-draft, republished, front-taken, with-current, start-current, next-fdt, fdt-done}
-use Rattle.lifecycle.specs.Announce.{instance-of, waiting-of, state-of, draft-of, answer-of, no-instance, FdtValid, fdt-rule, needs-new-of, first-instance, queued-of, front-of, started-instance, done-instance, holding, start-of, republished-of, transferring-of, next-of, done-of, waits-of, held-of, shares-fdt-of, bad-fdt-of, opening-of}
+use Rattle.lifecycle.specs.Announce.{instance-of, waiting-of, state-of, draft-given, answer-of, no-instance, FdtValid, fdt-rule, needs-new-of, first-instance, queued-of, front-of, started-instance, done-instance, holding, start-of, republished-of, transferring-of, next-of, done-of, waits-of, held-of, shares-fdt-of, bad-fdt-of, opening-of}
 use Rattle.lifecycle.specs.declared.parts.Part.{Part}
 use Rattle.lifecycle.specs.declared.filedesc.Rule.{Rule}
 use Rattle.lifecycle.specs.declared.announce.Instance.{Instance}
@@ -175,7 +175,7 @@ valid-next a v r validity now draft = go (tested (transferring-of a))
   where
     go : Tested (transferring-of a) → FdtValid (next-of r validity now draft a .announcer)
     go (pass e) = rw e v
-    go (fail e) = rw e (valid-start (front-of (republished-of validity now draft a)) (valid-front (republished-of validity now draft a) (valid-republished a v validity now draft)) r now (needs-new-of validity now a && given (draft-of draft)))
+    go (fail e) = rw e (valid-start (front-of (republished-of validity now draft a)) (valid-front (republished-of validity now draft a) (valid-republished a v validity now draft)) r now (needs-new-of validity now a && given (draft-given draft)))
 
 -- ---- in the definition's words
 
@@ -342,17 +342,17 @@ module _ (a : Announcer) (v : FdtValid a) where
 
   -- republish
   pub state-republished : (s : Setup) (validity now : ℕ) (draft : Draft) → s .validity ≡ validity
-      → state-of (republished-of validity now draft a) ≡ republished s now (draft-of draft) (state-of a)
+      → state-of (republished-of validity now draft a) ≡ republished s now (draft-given draft) (state-of a)
   unfolding republished-of republished
   state-republished s validity now draft p = go draft (tested (needs-new-of validity now a))
     where
-      go : (d : Draft) → Tested (needs-new-of validity now a) → state-of (republished-of validity now d a) ≡ republished s now (draft-of d) (state-of a)
+      go : (d : Draft) → Tested (needs-new-of validity now a) → state-of (republished-of validity now d a) ≡ republished s now (draft-given d) (state-of a)
       go (Given c) (pass e) = rw (← needs-said s validity now p, e) (state-queued now c (let z = needed-empty validity now a e in omega arith))
       go Missing (pass e) = rw (← needs-said s validity now p, e)
       go d (fail e) = rw (← needs-said s validity now p, e)
 
   pub takes-said : (s : Setup) (validity now : ℕ) (draft : Draft) → s .validity ≡ validity
-      → (needs-new-of validity now a && given (draft-of draft)) ≡ takes-draft s now (draft-of draft) (state-of a)
+      → (needs-new-of validity now a && given (draft-given draft)) ≡ takes-draft s now (draft-given draft) (state-of a)
   unfolding takes-draft
   takes-said s validity now draft p = rw (needs-said s validity now p)
 
@@ -362,34 +362,34 @@ said-still a = refl
 
 -- the next FDT: taken, state and what starts are the definition's
 pub next-said : (a : Announcer) → FdtValid a → (s : Setup) (r : Rule) (validity now : ℕ) (draft : Draft) → s .validity ≡ validity → plan-of r ≡ fdt-plan s
-    → answer-of (next-of r validity now draft a) ≡ next-fdt s now (draft-of draft) (state-of a)
+    → answer-of (next-of r validity now draft a) ≡ next-fdt s now (draft-given draft) (state-of a)
 unfolding next-of next-fdt
 next-said a v s r validity now draft e p = go (tested (transferring-of a))
   where
     b : Announcer
     b = republished-of validity now draft a
 
-    go : Tested (transferring-of a) → answer-of (next-of r validity now draft a) ≡ next-fdt s now (draft-of draft) (state-of a)
+    go : Tested (transferring-of a) → answer-of (next-of r validity now draft a) ≡ next-fdt s now (draft-given draft) (state-of a)
     go (pass q) = rw (← busy-said a, q) (said-still a)
     go (fail q) =
         rw (← busy-said a, q)
-        (starts-said s r now (needs-new-of validity now a && given (draft-of draft)) (front-of b) p
-        ∙ ap (λ f. start-current s now (needs-new-of validity now a && given (draft-of draft)) f) (state-front b (valid-republished a v validity now draft) ∙ ap front-taken (state-republished a v s validity now draft e))
-        ∙ ap (λ t. start-current s now t (front-taken (republished s now (draft-of draft) (state-of a)))) (takes-said a v s validity now draft e))
+        (starts-said s r now (needs-new-of validity now a && given (draft-given draft)) (front-of b) p
+        ∙ ap (λ f. start-current s now (needs-new-of validity now a && given (draft-given draft)) f) (state-front b (valid-republished a v validity now draft) ∙ ap front-taken (state-republished a v s validity now draft e))
+        ∙ ap (λ t. start-current s now t (front-taken (republished s now (draft-given draft) (state-of a)))) (takes-said a v s validity now draft e))
 
 -- the same, part by part
 module _ (a : Announcer) (v : FdtValid a) (s : Setup) (r : Rule) (validity now : ℕ) (draft : Draft) (e : s .validity ≡ validity) (p : plan-of r ≡ fdt-plan s) where
-  pub next-taken : next-of r validity now draft a .taken ≡ next-fdt s now (draft-of draft) (state-of a) .taken
+  pub next-taken : next-of r validity now draft a .taken ≡ next-fdt s now (draft-given draft) (state-of a) .taken
   unfolding answer-of
   next-taken = ap (λ (x : Def.Next). x .taken) (next-said a v s r validity now draft e p)
 
-  pub next-state : state-of (next-of r validity now draft a .announcer) ≡ next-fdt s now (draft-of draft) (state-of a) .state
+  pub next-state : state-of (next-of r validity now draft a .announcer) ≡ next-fdt s now (draft-given draft) (state-of a) .state
   unfolding answer-of
   next-state = ap (λ (x : Def.Next). x .state) (next-said a v s r validity now draft e p)
 
   -- what starts is given exactly where the code says so, and is the new current one
   pub next-starts : (if next-of r validity now draft a .starts then some (instance-of (next-of r validity now draft a .announcer .current)) else none)
-      ≡ next-fdt s now (draft-of draft) (state-of a) .starts
+      ≡ next-fdt s now (draft-given draft) (state-of a) .starts
   unfolding answer-of
   next-starts = ap (λ (x : Def.Next). x .starts) (next-said a v s r validity now draft e p)
 

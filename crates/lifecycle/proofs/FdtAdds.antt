@@ -16,7 +16,8 @@ use Rattle.sizes.proofs.AllocatorViews.{allocated-room}
 use Rattle.lifecycle.specs.Setup.{bad-blocks}
 use Rattle.lifecycle.specs.Slots.{is-free}
 use Rattle.lifecycle.specs.FdtCalls.{files, waits, Valid, with-tois, own-of, bad-part-of, put-of, refuses, refusal, named-of, fresh-of, numbered-of, added-of}
-use Rattle.lifecycle.specs.FdtMeans.{Seen, new-slot, Adds, refused, admits, unknown, full}
+use Rattle.lifecycle.specs.FdtCalls.{new-slot}
+use Rattle.lifecycle.specs.FdtMeans.{Seen, ListAdds, refused, admits, unknown, full}
 use Rattle.lifecycle.specs.declared.fdt.Fdt.{Fdt}
 use Rattle.lifecycle.specs.declared.fdt.Added.{Added}
 use Rattle.lifecycle.specs.declared.fdt.Admission.the-variants as AdmissionV
@@ -31,22 +32,22 @@ module _ (f : Fdt) (v : Valid f) (q : Request) (z : Sizes) where
   unfolding put-of
   put-view a k t e = let h = free-at f v k e in seen-joins f v k (h .0) (new-slot q z t) a (ap waits (h .1 .blank))
 
-  named-view : (t : ℕ) → Adds f q z (NamedV.Toi t) (named-of f q z t)
+  named-view : (t : ℕ) → ListAdds f q z (NamedV.Toi t) (named-of f q z t)
   unfolding named-of put-of
   named-view t =
-      if-on (Adds f q z (NamedV.Toi t)) (has t (Alloc.loose (f .tois)))
-      (λ l. maybe-on (Adds f q z (NamedV.Toi t)) (place is-free (f .slots)) (λ e. no-room)
+      if-on (ListAdds f q z (NamedV.Toi t)) (has t (Alloc.loose (f .tois)))
+      (λ l. maybe-on (ListAdds f q z (NamedV.Toi t)) (place is-free (f .slots)) (λ e. no-room)
       (λ k e. admits k t (record { answer = refl; found = e; free = free-at f v k e .1; number = (refl, l, refl); view = put-view (Alloc.claimed-of t (f .tois) .allocator) k t e })))
       (λ l. refused AdmissionV.Unknown (λ n e. let z : _≡_ {A = ℕ} 0 1 = cc in omega arith) refl)
     where
-      no-room : Adds f q z (NamedV.Toi t) (refuses f AdmissionV.Full)
+      no-room : ListAdds f q z (NamedV.Toi t) (refuses f AdmissionV.Full)
       no-room = refused AdmissionV.Full (λ n e. let z : _≡_ {A = ℕ} 0 1 = cc in omega arith) refl
 
-  fresh-view : Adds f q z NamedV.Anew (fresh-of f q z)
+  fresh-view : ListAdds f q z NamedV.Anew (fresh-of f q z)
   unfolding fresh-of put-of
   fresh-view =
-      maybe-on (Adds f q z NamedV.Anew) (place is-free (f .slots)) (λ e. no-room)
-      (λ k e. if-on (Adds f q z NamedV.Anew) (ltb (f .tois .entered) toi-entries)
+      maybe-on (ListAdds f q z NamedV.Anew) (place is-free (f .slots)) (λ e. no-room)
+      (λ k e. if-on (ListAdds f q z NamedV.Anew) (ltb (f .tois .entered) toi-entries)
       (λ l.
       let h = ltb-true (f .tois .entered) toi-entries l in
       admits k (f .tois .next) (record {
@@ -58,21 +59,21 @@ module _ (f : Fdt) (v : Valid f) (q : Request) (z : Sizes) where
       }))
       (λ l. no-room))
     where
-      no-room : Adds f q z NamedV.Anew (refuses f AdmissionV.Full)
+      no-room : ListAdds f q z NamedV.Anew (refuses f AdmissionV.Full)
       no-room = refused AdmissionV.Full (λ n e. let z : _≡_ {A = ℕ} 0 1 = cc in omega arith) refl
 
-  numbered-view : (named : Named) → Adds f q z named (numbered-of f q z named)
+  numbered-view : (named : Named) → ListAdds f q z named (numbered-of f q z named)
   unfolding numbered-of
   numbered-view (NamedV.Toi t) = named-view t
   numbered-view NamedV.Anew = fresh-view
 
-pub added-view : (f : Fdt) → Valid f → (q : Request) (named : Named) → Adds f q (own-of (q .own) (f .settings .sizes)) named (added-of f q named)
+pub added-view : (f : Fdt) → Valid f → (q : Request) (named : Named) → ListAdds f q (own-of (q .own) (f .settings .sizes)) named (added-of f q named)
 unfolding added-of
 added-view f v q named =
     let z = own-of (q .own) (f .settings .sizes) in
-    if-on (Adds f q z named) (f .complete) (λ e. refused AdmissionV.Complete (λ n e. let z : _≡_ {A = ℕ} 0 1 = cc in omega arith) refl) (λ e.
-    if-on (Adds f q z named) (bad-blocks z (q .part .size)) (λ e. refused AdmissionV.Sizes (λ n e. let z : _≡_ {A = ℕ} 0 1 = cc in omega arith) refl) (λ e.
-    if-on (Adds f q z named) (bad-part-of f (q .part)) (λ e. refused AdmissionV.Part (λ n e. let z : _≡_ {A = ℕ} 0 1 = cc in omega arith) refl) (λ e.
+    if-on (ListAdds f q z named) (f .complete) (λ e. refused AdmissionV.Complete (λ n e. let z : _≡_ {A = ℕ} 0 1 = cc in omega arith) refl) (λ e.
+    if-on (ListAdds f q z named) (bad-blocks z (q .part .size)) (λ e. refused AdmissionV.Sizes (λ n e. let z : _≡_ {A = ℕ} 0 1 = cc in omega arith) refl) (λ e.
+    if-on (ListAdds f q z named) (bad-part-of f (q .part)) (λ e. refused AdmissionV.Part (λ n e. let z : _≡_ {A = ℕ} 0 1 = cc in omega arith) refl) (λ e.
     numbered-view f v q z named)))
 
 -- ---- refusals 3 to 7, in their order

@@ -19,7 +19,8 @@ use Rattle.sizes.proofs.AllocatorViews.{freed-view}
 use Rattle.lifecycle.specs.FileDesc.{life-of, with-life, reset-life}
 use Rattle.lifecycle.specs.Slots.{no-slot, slot-at, is-listed-as}
 use Rattle.lifecycle.specs.FdtCalls.{waiting, files, sends, used, waits, Valid, listed-place, transfers-of, unlisted-of, freed-of, removed-of, triggered-of}
-use Rattle.lifecycle.specs.FdtMeans.{file-at, is-not, Listed, listed-files, unlisted-slot, Removal, nobody, sent, waited, listed-but, Removes, reset-file, Triggers}
+use Rattle.lifecycle.specs.FdtCalls.{unlisted-slot}
+use Rattle.lifecycle.specs.FdtMeans.{file-at, is-not, Listed, listed-files, Removal, nobody, sent, waited, listed-but, ListRemoves, reset-file, Triggers}
 use Rattle.lifecycle.specs.declared.filedesc.Time.{Time}
 use Rattle.lifecycle.specs.declared.filedesc.FileDesc.{FileDesc}
 use Rattle.lifecycle.specs.declared.slots.Slot.{Slot}
@@ -102,12 +103,12 @@ dropped : (a b : Bool) → b ≡ true → false ≡ (a && not b)
 dropped true b e = sym (ap not e)
 dropped false b e = refl
 
-pub removed-view : (t : ℕ) (f : Fdt) → Valid f → Removes t f (removed-of t f .fdt)
+pub removed-view : (t : ℕ) (f : Fdt) → Valid f → ListRemoves t f (removed-of t f .fdt)
 unfolding is-listed-as
 removed-view t f v = go (removed-of t f) (removed-cases t f v)
   where
-    go : (r : Told) → Removal t f r → Removes t f (r .fdt)
-    go r (nobody a q e) = subst (λ (x : Told). Removes t f (x .fdt)) (sym e) (record {
+    go : (r : Told) → Removal t f r → ListRemoves t f (r .fdt)
+    go r (nobody a q e) = subst (λ (x : Told). ListRemoves t f (x .fdt)) (sym e) (record {
       queue = q;
       sent-same = λ j. refl;
       file-same = λ j s. refl;

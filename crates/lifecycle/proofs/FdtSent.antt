@@ -14,7 +14,7 @@ use Rattle.lifecycle.specs.Setup.{bad-blocks}
 use Rattle.lifecycle.specs.Announce.{fdt-rule, next-of, bad-fdt-of, queued-of}
 use Rattle.lifecycle.specs.Slots.{no-slot, slot-at, place-said, published-slot}
 use Rattle.lifecycle.specs.FdtCalls.{sends, Valid, completed-of, reserved-of, released-of, own-of, added-of, taken-of, done-of, announced, publish-of, next-fdt-of, fdt-done-of}
-use Rattle.lifecycle.specs.FdtMeans.{SentSame, Adds, refused, admits, Takes, nothing, takes, is-taken, Ends, idle, back, gone}
+use Rattle.lifecycle.specs.FdtMeans.{SentSame, ListAdds, refused, admits, Takes, nothing, takes, is-taken, Ends, idle, back, gone}
 use Rattle.lifecycle.specs.declared.parts.Part.{Part}
 use Rattle.lifecycle.specs.declared.slots.Slot.{Slot}
 use Rattle.lifecycle.specs.declared.slots.Place.{Place}
@@ -160,7 +160,7 @@ module _ (f : Fdt) where
   pub added-sent : Valid f → (q : Request) (named : Named) → SentSame f (added-of f q named .fdt)
   added-sent v q named = go (added-of f q named) (added-view f v q named)
     where
-      go : (r : Added) → Adds f q (own-of (q .own) (f .settings .sizes)) named r → SentSame f (r .fdt)
+      go : (r : Added) → ListAdds f q (own-of (q .own) (f .settings .sizes)) named r → SentSame f (r .fdt)
       go r (refused a n e) = subst (λ (x : Added). SentSame f (x .fdt)) (sym e) (λ j. refl)
       go r (admits k t h) = at-each (λ j. sends (slot-at (r .fdt .slots) j) ≡ sends (slot-at (f .slots) j)) k
           (ap sends (h .view .new) ∙ sym (ap sends (h .free .blank))) (λ j e. ap sends (h .view .same j e))

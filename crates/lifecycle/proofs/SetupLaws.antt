@@ -1,10 +1,10 @@
 -- What an accepted set-up tells, and when E, B or the block count is out of range.
-use mathlib.Core.Path.{_≡_, _∙_, ap}
-use mathlib.Core.Bool.{true, false, and-false, _&&_}
-use Prim.Native.Nat.{ℕ, _≤_, _<_}
+use mathlib.Core.Path.{_≡_, sym, _∙_, ap}
+use mathlib.Core.Bool.{Bool, true, false, _&&_}
+use Prim.Native.Nat.{ℕ, _≤_}
 use native.Mathlib.Omega.{arith}
 use lib.Dec.{ltb, leb}
-use borrow.Author.Tests.{leb-true, lt-leb, le-leb}
+use borrow.Author.Tests.{leb-true}
 use lib.ListN.{length}
 use Rattle.sizes.specs.Words.{all, has, within}
 use Rattle.sizes.specs.Limits.{largest-symbol, largest-block, most-blocks, longest-store, most-sessions, largest-priority, largest-window, largest-fdt-id}
@@ -68,38 +68,19 @@ told s k =
 
 -- ---- refusal 4
 
--- a number below, above and inside a range from 1
-low : (n h : ℕ) → n ≡ 0 → within 1 h n ≡ false
-low n h e = ap (λ b. b && leb n h) (lt-leb 1 n (omega arith))
+-- two tests, the second where the first passes
+pub both : {a b x y : Bool} → x ≡ a → x ≡ true → y ≡ b → y ≡ (a && b)
+both {a} {b} e t f = f ∙ ap (λ q. q && b) (sym t ∙ e)
 
-high : (n h : ℕ) → h < n → within 1 h n ≡ false
-high n h e = ap (λ b. leb 1 n && b) (lt-leb n h e) ∙ and-false (leb 1 n)
-
-ranged : (n h : ℕ) → (n ≡ 0 → ⊥) → n ≤ h → within 1 h n ≡ true
-ranged n h a b = ap (λ x. x && leb n h) (le-leb 1 n (omega arith)) ∙ le-leb n h b
+pub not-first : (b : Bool) {a x : Bool} → x ≡ a → x ≡ false → x ≡ (a && b)
+not-first b e f = f ∙ ap (λ q. q && b) (sym f ∙ e)
 
 -- E or B out of its range, or else the block count
 module _ (z : Sizes) (l : ℕ) where
-  bad-symbol : within 1 largest-symbol (z .e) ≡ false → bad-blocks z l ≡ true
-  unfolding bad-blocks sound-sizes
-  bad-symbol e = rw e
+  pub unsound : sound-sizes z ≡ false → bad-blocks z l ≡ true
+  unfolding bad-blocks
+  unsound e = rw e
 
-  bad-block : within 1 largest-block (z .b) ≡ false → bad-blocks z l ≡ true
-  unfolding bad-blocks sound-sizes
-  bad-block e = rw (e, and-false (within 1 largest-symbol (z .e)))
-
-  pub no-symbol : z .e ≡ 0 → bad-blocks z l ≡ true
-  no-symbol e = bad-symbol (low (z .e) largest-symbol e)
-
-  pub long-symbol : largest-symbol < z .e → bad-blocks z l ≡ true
-  long-symbol h = bad-symbol (high (z .e) largest-symbol h)
-
-  pub no-block : z .b ≡ 0 → bad-blocks z l ≡ true
-  no-block e = bad-block (low (z .b) largest-block e)
-
-  pub long-block : largest-block < z .b → bad-blocks z l ≡ true
-  long-block h = bad-block (high (z .b) largest-block h)
-
-  pub blocks-counted : (z .e ≡ 0 → ⊥) → z .e ≤ largest-symbol → (z .b ≡ 0 → ⊥) → z .b ≤ largest-block → bad-blocks z l ≡ ltb most-blocks (blocks-of z l .blocks)
-  unfolding bad-blocks sound-sizes
-  blocks-counted a b c d = rw (ranged (z .e) largest-symbol a b, ranged (z .b) largest-block c d)
+  pub blocks-counted : sound-sizes z ≡ true → bad-blocks z l ≡ ltb most-blocks (blocks-of z l .blocks)
+  unfolding bad-blocks
+  blocks-counted e = rw e

@@ -3,7 +3,7 @@ use mathlib.Core.Path.{_≡_}
 use mathlib.Core.Bool.{Bool, true, false, not, _&&_, _||_}
 use mathlib.Core.Option.{Option, none, some}
 use mathlib.Core.List.{List, map}
-use Prim.Native.Nat.{ℕ, _+_, _-_, _%_, _≤_, _<_}
+use Prim.Native.Nat.{ℕ, _+_, _-_, _≤_, _<_}
 use lib.Dec.{eqb, ltb}
 use lib.ListN.{length, getD, take, set, replicate}
 use Rattle.sizes.specs.Words.{if_then_else_, maybe, given, any, shut}
@@ -12,7 +12,7 @@ use Rattle.lifecycle.specs.Parts.{shares, past-store}
 use Rattle.lifecycle.specs.Lifecycle.{may-start}
 use Rattle.lifecycle.specs.FileDesc.{time-of, plan-of, life-of, no-time, time-at, unborn-of, published-life, started-life, done-life}
 use Rattle.lifecycle.specs.Fdt as Def
-use Rattle.lifecycle.specs.Fdt.{FdtState, runs-out}
+use Rattle.lifecycle.specs.Fdt.{FdtState, id-after, runs-out}
 use Rattle.lifecycle.specs.declared.parts.Part.{Part}
 use Rattle.lifecycle.specs.declared.filedesc.Rule.{Rule}
 use Rattle.lifecycle.specs.declared.announce.Instance.{Instance}
@@ -40,9 +40,9 @@ state-of a = record {
 }
 
 -- a draft may be missing
-abbrev pub draft-of : Draft → Option Part
-draft-of (Given c) = some c
-draft-of Missing = none
+abbrev pub draft-given : Draft → Option Part
+draft-given (Given c) = some c
+draft-given Missing = none
 
 -- what an answer says; the FDT that starts is the new current one
 unfoldable pub answer-of : NextFdt → Def.Next
@@ -83,7 +83,7 @@ first-instance id c = record { id = id; part = c; life = published-life (unborn-
 -- publish: the part waits under the current id, which moves on
 unfoldable pub queued-of : ℕ → Part → Announcer → Announcer
 queued-of now c a = record {
-  fdtid = (a .fdtid + 1) % (largest-fdt-id + 1);
+  fdtid = id-after (a .fdtid);
   «last_publish» = time-at now;
   queue = set (a .queue) (a .waiting) (first-instance (a .fdtid) c);
   waiting = a .waiting + 1;
@@ -126,7 +126,7 @@ start-of r now taken a =
 
 -- republish: without a draft it fails, and nothing is queued
 unfoldable pub republished-of : ℕ → ℕ → Draft → Announcer → Announcer
-republished-of validity now draft a = if needs-new-of validity now a then maybe a (λ c. queued-of now c a) (draft-of draft) else a
+republished-of validity now draft a = if needs-new-of validity now a then maybe a (λ c. queued-of now c a) (draft-given draft) else a
 
 -- is an FDT being transferred
 unfoldable pub transferring-of : Announcer → Bool
@@ -136,7 +136,7 @@ transferring-of a = a .«has_current» && a .current .life .transferring
 unfoldable pub next-of : Rule → ℕ → ℕ → Draft → Announcer → NextFdt
 next-of r validity now draft a =
     if transferring-of a then record { taken = false; starts = false; announcer = a }
-    else start-of r now (needs-new-of validity now a && given (draft-of draft)) (front-of (republished-of validity now draft a))
+    else start-of r now (needs-new-of validity now a && given (draft-given draft)) (front-of (republished-of validity now draft a))
 
 -- the current one is done
 unfoldable pub done-of : ℕ → Announcer → Announcer

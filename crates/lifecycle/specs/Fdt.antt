@@ -37,15 +37,20 @@ fdt-parts f = collect (λ (i : Instance). some (i .part)) (f .waiting) ++ maybe 
 unfoldable pub bad-fdt-part : Setup → FdtState → Part → Bool
 bad-fdt-part s f c = past-store (s .fdt-store) c || any (shares c) (fdt-parts f)
 
+-- the FDT id after this one
+abbrev pub id-after : ℕ → ℕ
+id-after n = (n + 1) % (largest-fdt-id + 1)
+
 -- publish: the part waits under the current id, which moves on
 unfoldable pub queued : ℕ → Part → FdtState → FdtState
 queued now c f = record {
-  next-id = (f .next-id + 1) % (largest-fdt-id + 1);
+  next-id = id-after (f .next-id);
   last = some now;
   current = f .current;
   waiting = f .waiting ++ (record { id = f .next-id; part = c; life = unborn true none; transferring = false } ∷ []);
 }
 
+-- so many seconds, in nanoseconds
 abbrev pub seconds : ℕ → ℕ
 seconds n = n * 1_000_000_000
 

@@ -125,16 +125,20 @@ own-of OwnV.SetUp z = z
 unfoldable pub bad-part-of : Fdt → Part → Bool
 bad-part-of f c = past-store (f .settings .«object_store») c || any (holds-byte c) (f .slots)
 
+-- the slot of a new object with number t
+abbrev pub new-slot : Request → Sizes → ℕ → Slot
+new-slot q z t = record { holders = 1; listed = true; file = file-new t (q .priority) (q .part) z (q .rule) (q .start) }
+
 -- a new object in slot k, at the queue's end
 unfoldable pub put-of : Fdt → ℕ → ℕ → Request → Sizes → Fdt
 put-of f k toi q z = with-objects f (f .tois)
-    (set (f .slots) k (record { holders = 1; listed = true; file = file-new toi (q .priority) (q .part) z (q .rule) (q .start) }))
+    (set (f .slots) k (new-slot q z toi))
     (set (f .queue) (f .queued) k) (f .queued + 1)
 
 abbrev pub refuses : Fdt → Admission → Added
 refuses f a = record { answer = a; fdt = f }
 
--- with a free slot, and the number that a call of the allocator gave it
+-- with the first free slot; refused (7) where there is none
 abbrev pub in-slot : Fdt → (ℕ → Added) → Added
 in-slot f go = maybe (refuses f AdmissionV.Full) go (place is-free (f .slots))
 
@@ -180,9 +184,13 @@ transfers-said NotListed = none
 unfoldable pub transfers-of : ℕ → Fdt → Option ℕ
 transfers-of t f = maybe none (λ k. some (slot-at (f .slots) k .file .life .total)) (listed-place t f)
 
+-- the slot in transfer, once its object is off the list
+abbrev pub unlisted-slot : Slot → Slot
+unlisted-slot y = record { holders = y .holders - 1; listed = false; file = y .file }
+
 -- a session sends it: it keeps slot, part and number, and the list lets go
 unfoldable pub unlisted-of : Fdt → ℕ → Fdt
-unlisted-of f k = with-slots f (set (f .slots) k (record { holders = slot-at (f .slots) k .holders - 1; listed = false; file = slot-at (f .slots) k .file }))
+unlisted-of f k = with-slots f (set (f .slots) k (unlisted-slot (slot-at (f .slots) k)))
 
 -- it waits at place n of the queue: slot, part and number are free
 unfoldable pub freed-of : Fdt → ℕ → ℕ → ℕ → Fdt
@@ -205,10 +213,14 @@ triggered-of t start f = maybe (record { yes = false; fdt = f }) (λ k. record {
 
 -- ---- transfers
 
+-- the slot once its transfer has started
+abbrev pub started-slot : ℕ → Slot → Slot
+started-slot now y = record { holders = y .holders + 1; listed = y .listed; file = with-life (y .file) (started-life (y .file .rule) now (y .file .life)) }
+
 -- slot k, at place n of the queue, is taken by a session
 unfoldable pub taken-at : ℕ → Fdt → ℕ → ℕ → Fdt
 taken-at now f n k = with-objects f (f .tois)
-    (set (f .slots) k (let v = slot-at (f .slots) k in record { holders = v .holders + 1; listed = v .listed; file = with-life (v .file) (started-life (v .file .rule) now (v .file .life)) }))
+    (set (f .slots) k (started-slot now (slot-at (f .slots) k)))
     (shut 0 (f .queue) n) (f .queued - 1)
 
 -- the first in the queue that a session of priority p may start
@@ -223,10 +235,14 @@ ended-file now v = with-life (v .file) (done-life now (v .file .life))
 unfoldable pub goes-back : ℕ → Slot → Bool
 goes-back now v = v .listed && not (expired (plan-of (v .file .rule)) (life-of (ended-file now v .life)))
 
+-- the slot once its transfer has ended
+abbrev pub ended-slot : ℕ → Slot → Slot
+ended-slot now y = record { holders = y .holders - 1; listed = y .listed; file = ended-file now y }
+
 -- it goes to the queue's end
 unfoldable pub back-of : ℕ → Fdt → ℕ → Fdt
 back-of now f k = with-objects f (f .tois)
-    (set (f .slots) k (let v = slot-at (f .slots) k in record { holders = v .holders - 1; listed = v .listed; file = ended-file now v }))
+    (set (f .slots) k (ended-slot now (slot-at (f .slots) k)))
     (set (f .queue) (f .queued) k) (f .queued + 1)
 
 -- or it is let go: slot, part and number are free

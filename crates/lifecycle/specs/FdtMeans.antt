@@ -12,9 +12,9 @@ use Rattle.sizes.specs.Allocator as Alloc
 use Rattle.sizes.specs.Allocator.{Freed}
 use Rattle.sizes.specs.declared.partition.Sizes.{Sizes}
 use Rattle.sizes.specs.declared.toiallocator.ToiAllocator.{ToiAllocator}
-use Rattle.lifecycle.specs.FileDesc.{with-life, started-life, reset-life, published-life, file-new, startable-file}
+use Rattle.lifecycle.specs.FileDesc.{with-life, reset-life, published-life, startable-file}
 use Rattle.lifecycle.specs.Slots.{no-slot, slot-at, place-said, is-free, is-listed-as}
-use Rattle.lifecycle.specs.FdtCalls.{waiting, files, sends, used, refuses, ended-file, goes-back}
+use Rattle.lifecycle.specs.FdtCalls.{waiting, files, sends, used, refuses, new-slot, unlisted-slot, started-slot, ended-file, ended-slot, goes-back}
 use Rattle.lifecycle.specs.declared.filedesc.Time.{Time}
 use Rattle.lifecycle.specs.declared.filedesc.FileDesc.{FileDesc}
 use Rattle.lifecycle.specs.declared.slots.Slot.{Slot}
@@ -78,10 +78,6 @@ SentSame f r = (j : ℕ) → sends (slot-at (r .slots) j) ≡ sends (slot-at (f 
 
 -- ---- add
 
--- the slot of a new object with number t
-abbrev pub new-slot : Request → Sizes → ℕ → Slot
-new-slot q z t = record { holders = 1; listed = true; file = file-new t (q .priority) (q .part) z (q .rule) (q .start) }
-
 -- where its number is from: a reservation, loose until now; or the allocator's next
 abbrev pub Numbers : Named → ℕ → ToiAllocator → ToiAllocator → Type 0
 Numbers (NamedV.Toi u) t a b = (t ≡ u) × (has u (Alloc.loose a) ≡ true) × (b ≡ Alloc.claimed-of u a .allocator)
@@ -96,9 +92,9 @@ pub record Admits (f : Fdt) (q : Request) (z : Sizes) (named : Named) (k t : ℕ
   pub view : Seen f (files f ++ (new-slot q z t .file ∷ [])) k (new-slot q z t) (r .fdt)
 
 -- refused, and nothing has changed; or admitted
-pub data Adds (f : Fdt) (q : Request) (z : Sizes) (named : Named) (r : Added) : Type 0 where
-  refused : (a : Admission) → ((t : ℕ) → a ≡ AdmissionV.Toi t → ⊥) → r ≡ refuses f a → Adds f q z named r
-  admits : (k t : ℕ) → Admits f q z named k t r → Adds f q z named r
+pub data ListAdds (f : Fdt) (q : Request) (z : Sizes) (named : Named) (r : Added) : Type 0 where
+  refused : (a : Admission) → ((t : ℕ) → a ≡ AdmissionV.Toi t → ⊥) → r ≡ refuses f a → ListAdds f q z named r
+  admits : (k t : ℕ) → Admits f q z named k t r → ListAdds f q z named r
 
 -- refusal 6: the reservation that is named is not loose
 abbrev pub unknown : Named → Fdt → Bool
@@ -111,10 +107,6 @@ full (NamedV.Toi t) f = not (given (place is-free (f .slots)))
 full NamedV.Anew f = not (given (place is-free (f .slots))) || not (ltb (f .tois .entered) toi-entries)
 
 -- ---- remove
-
--- the slot in transfer, once its object is off the list
-abbrev pub unlisted-slot : Slot → Slot
-unlisted-slot y = record { holders = y .holders - 1; listed = false; file = y .file }
 
 -- nobody listed has the number; or it is in transfer, and only the list lets go; or it waits, and is free from now on
 pub data Removal (t : ℕ) (f : Fdt) (r : Told) : Type 0 where
@@ -129,7 +121,7 @@ abbrev pub listed-but : ℕ → Slot → Bool
 listed-but t y = y .listed && is-not t (y .file)
 
 -- in each case: the objects without the number wait; what is in transfer stays, and is off the list if it has the number
-pub record Removes (t : ℕ) (f r : Fdt) : Type 0 where
+pub record ListRemoves (t : ℕ) (f r : Fdt) : Type 0 where
   pub queue : files r ≡ keep (is-not t) (files f)
   pub sent-same : SentSame f r
   pub file-same : (j : ℕ) → sends (slot-at (f .slots) j) ≡ true → file-at (r .slots) j ≡ file-at (f .slots) j
@@ -149,10 +141,6 @@ pub record Triggers (t : ℕ) (start : Time) (f r : Fdt) : Type 0 where
 
 -- ---- take
 
--- the slot once its transfer has started
-abbrev pub started-slot : ℕ → Slot → Slot
-started-slot now y = record { holders = y .holders + 1; listed = y .listed; file = with-life (y .file) (started-life (y .file .rule) now (y .file .life)) }
-
 -- nothing may start; or the first of the queue that may is taken
 pub data Takes (p now : ℕ) (f : Fdt) (r : Taken) : Type 0 where
   nothing : place (startable-file p now) (files f) ≡ none → r ≡ record { answer = Nothing; fdt = f } → Takes p now f r
@@ -164,10 +152,6 @@ abbrev pub is-taken : Place → ℕ → Bool
 is-taken a j = maybe false (λ k. eqb k j) (place-said a)
 
 -- ---- done
-
--- the slot once its transfer has ended
-abbrev pub ended-slot : ℕ → Slot → Slot
-ended-slot now y = record { holders = y .holders - 1; listed = y .listed; file = ended-file now y }
 
 -- it was not in transfer; or it goes to the queue's end; or it is let go
 pub data Ends (now k : ℕ) (f r : Fdt) : Type 0 where

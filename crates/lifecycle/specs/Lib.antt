@@ -1,4 +1,4 @@
--- The definition: Parts, Lifecycle, Setup, Fdt. The code's records in its words: FileDesc. What its calls mean for the layer above: FdtMeans.
+-- The definition: Parts, Lifecycle, Setup, Fdt. The code's records and what its calls make of them: FileDesc, Announce, Slots, FdtCalls. What these mean for the layer above: FdtMeans.
 pub mod Parts
 pub mod Lifecycle
 pub mod Setup

@@ -4,8 +4,8 @@ ghost use mathlib.Core.Bool.{true, false};
 ghost use Prim.Native.Nat.{_<_, _≤_};
 ghost use lib.Dec.{eqb};
 ghost use lib.ListN.{take};
-ghost use Rattle.sizes.specs.Words.{place, shut, Each};
-ghost use Rattle.lifecycle.specs.Setup.{bad-blocks};
+ghost use Rattle.sizes.specs.Words.{place, shut, within, Each};
+ghost use Rattle.lifecycle.specs.Setup.{sound-sizes, bad-blocks};
 ghost use Rattle.lifecycle.specs.FdtCalls.{own-of, bad-part-of, put-of, reserved-of, released-of, fresh-of, named-of, added-of, is-added-of, transfers-of, transfers-said, unlisted-of, freed-of, removed-of, triggered-of, taken-at, taken-of, back-of, let-go-of, done-of, completed-of, Valid};
 ghost use Rattle.lifecycle.specs.Slots.{slot-at, place-said, queue-startable};
 ghost use Rattle.lifecycle.specs.Announce.{waits-of};
@@ -41,7 +41,7 @@ pub struct Settings {
     pub interval: u64,
 }
 
-// The queue has the slots of the objects that wait, the first `queued` of the array, in order.
+// The list: held objects in slots, the queue of those that wait (the first `queued`, in order), the numbers and the FDTs.
 #[repr(C)]
 pub struct Fdt {
     pub settings: Settings,
@@ -157,14 +157,25 @@ pub fn real_draft(draft: Draft) -> Draft
     Draft::Given(c)
 }
 
+// Is the number in a range?
+pub fn is_within(low: u64, high: u64, n: u64) -> bool
+    ensures { λ r. ⌜ r ≡ within low high n ⌝ }
+{
+    low <= n && n <= high
+}
+
+// Are E and B in their ranges?
+pub fn are_sound_sizes(z: Sizes) -> bool
+    ensures { λ r. ⌜ r ≡ sound-sizes z ⌝ }
+{
+    is_within(1, 65535, z.e) && is_within(1, 65535, z.b)
+}
+
 // Are E, B or the block count of l bytes out of range?
 pub fn are_bad_blocks(z: Sizes, l: u64) -> bool
     ensures { λ r. ⌜ r ≡ bad-blocks z l ⌝ }
 {
-    if z.e == 0 || 65535 < z.e {
-        return true;
-    }
-    if z.b == 0 || 65535 < z.b {
+    if !are_sound_sizes(z) {
         return true;
     }
     65535 < block_partitioning(z.b, l, z.e).blocks

@@ -56,6 +56,7 @@ pub struct Life {
     pub named_start: Time,
 }
 
+// A held object: its number, what it is, and its life.
 #[repr(C)]
 pub struct FileDesc {
     pub toi: u64,
@@ -356,7 +357,7 @@ impl FileDesc {
         self.rule.is_last_transfer(self.life)
     }
 
-    // May a session of this priority start it now? It waits in the queue, so it is not transferring.
+    // May a session of this priority start it now?
     pub fn should_transfer_now(self, priority: u32, now: u64) -> bool
         ensures { λ r. ⌜ r ≡ startable-file priority now self ⌝ }
     {

@@ -1,4 +1,4 @@
-// The slots of held objects, and the queue of those that wait.
+// The slots of held objects: the searches over them, and marking the listed ones published.
 ghost use mathlib.Core.Path.{_≡_};
 ghost use mathlib.Core.List.{map};
 ghost use Rattle.sizes.specs.Words.{place, any};

@@ -32,7 +32,7 @@ pub fn answer(line: &[u8]) -> bool {
     false
 }
 
-// FDT CLOSE FDT_ID TOI BLOCK SYMBOL LENGTH TRANSFER_LENGTH COUNT BUFFER_LEN
+// FDT CLOSE FDT_ID TOI BLOCK SYMBOL LENGTH TRANSFER_LENGTH COUNT ROOM
 fn answer_write(line: &[u8], from: usize) {
     let mut space = [0u8; 256];
     let out: &mut [u8] = &mut space;

@@ -22,7 +22,8 @@ use Rattle.lifecycle.specs.FileDesc.{time-of}
 use Rattle.lifecycle.specs.Slots.{slot-at, is-free}
 use Rattle.lifecycle.specs.Announce.{state-of}
 use Rattle.lifecycle.specs.FdtCalls.{files, sends, own-of, bad-part-of, refusal, put-of, named-of, fresh-of, numbered-of, added-of}
-use Rattle.lifecycle.specs.FdtMeans.{new-slot, Adds, Admits, refused, admits}
+use Rattle.lifecycle.specs.FdtCalls.{new-slot}
+use Rattle.lifecycle.specs.FdtMeans.{ListAdds, Admits, refused, admits}
 use Rattle.lifecycle.specs.declared.fdt.Fdt.{Fdt}
 use Rattle.lifecycle.specs.declared.fdt.Added.{Added}
 use Rattle.lifecycle.specs.declared.fdt.Admission.{Admission}
@@ -87,7 +88,7 @@ added-beside f q named =
     if-on (λ (r : Added). Beside f (r .fdt)) (bad-part-of f (q .part)) (λ e. beside-same f) (λ e. beside-numbered f q z named)))
 
 -- a slot that was free was not in transfer, so what is in transfer stays as it was
-pub added-kept : (f : Fdt) (q : Request) (z : Sizes) (named : Named) (r : Added) → Adds f q z named r → SentKept f (r .fdt)
+pub added-kept : (f : Fdt) (q : Request) (z : Sizes) (named : Named) (r : Added) → ListAdds f q z named r → SentKept f (r .fdt)
 added-kept f q z named r (refused a n e) = subst (λ (x : Added). SentKept f (x .fdt)) (sym e) (λ j s. refl)
 added-kept f q z named r (admits k t h) = at-each (λ j. sends (slot-at (f .slots) j) ≡ true → slot-at (r .fdt .slots) j ≡ slot-at (f .slots) j) k
     (λ s. absurd (true≢false (sym s ∙ ap sends (h .free .blank))))
@@ -192,7 +193,7 @@ module _ (o : Object) (named : Named) (s : Sender) (v : Valid s) where
   step-is u a e = ap (comes u) (add-refusal-view u s a v o named ∙ ap (λ b. if not b then some 2 else refusal (added-of (s .fdt) (request-of o) named .answer)) e)
 
   -- what the list makes of it is what the definition says
-  list-means : (u : Setup) → Agrees u s → (r : Added) → Adds (s .fdt) (request-of o) (own-of (o .own) (s .fdt .settings .sizes)) named r → Beside (s .fdt) (r .fdt)
+  list-means : (u : Setup) → Agrees u s → (r : Added) → ListAdds (s .fdt) (request-of o) (own-of (o .own) (s .fdt .settings .sizes)) named r → Beside (s .fdt) (r .fdt)
       → comes u (refusal (r .answer)) ≡ (add-answer (admission-said (r .answer)), desk-of (with-list s (r .fdt)))
   list-means u a r (refused x n e) b = subst (λ (r : Added). comes u (refusal (r .answer)) ≡ (add-answer (admission-said (r .answer)), desk-of (with-list s (r .fdt)))) (sym e) (refused-said x n (desk-of s) _)
   list-means u a r (admits k t h) b =

@@ -14,7 +14,7 @@ use Rattle.lifecycle.specs.Setup.{Setup, bad-blocks}
 use Rattle.lifecycle.specs.Fdt.{bad-fdt-part}
 use Rattle.lifecycle.specs.FileDesc.{plan-of, life-of, started-life, done-life}
 use Rattle.lifecycle.specs.Announce as Ann
-use Rattle.lifecycle.specs.Announce.{state-of, draft-of, FdtValid, needs-new-of, queued-of, republished-of, front-of, start-of, transferring-of, next-of, bad-fdt-of}
+use Rattle.lifecycle.specs.Announce.{state-of, draft-given, FdtValid, needs-new-of, queued-of, republished-of, front-of, start-of, transferring-of, next-of, bad-fdt-of}
 use Rattle.lifecycle.specs.FdtCalls.{with-slots, announced, with-announcer, real-draft, draft-test-of, next-fdt-of, fdt-done-of}
 use Rattle.lifecycle.specs.FdtCalls.{Valid as ListValid}
 use Rattle.lifecycle.specs.declared.parts.Part.{Part}
@@ -112,7 +112,7 @@ module _ (a : Announcer) (v : FdtValid a) where
 republished-sending : (validity now : ℕ) (draft : Draft) (a : Announcer) → sending (republished-of validity now draft a) ≡ sending a
 unfolding republished-of queued-of
 republished-sending validity now draft a =
-    if-on (λ (b : Announcer). sending b ≡ sending a) (needs-new-of validity now a) (λ e. maybe-on (λ (b : Announcer). sending b ≡ sending a) (draft-of draft) (λ q. refl) (λ c q. refl)) (λ e. refl)
+    if-on (λ (b : Announcer). sending b ≡ sending a) (needs-new-of validity now a) (λ e. maybe-on (λ (b : Announcer). sending b ≡ sending a) (draft-given draft) (λ q. refl) (λ c q. refl)) (λ e. refl)
 
 -- after the question for the next one, the current one is being transferred exactly where it starts
 abbrev Starts : NextFdt → Type 0
@@ -126,7 +126,7 @@ next-sending : (r : Rule) (validity now : ℕ) (draft : Draft) (a : Announcer) �
 unfolding next-of
 next-sending r validity now draft a v e = if-on Starts (transferring-of a) (λ q. e) (λ q.
     let b = republished-of validity now draft a in
-    start-sending r now (needs-new-of validity now a && given (draft-of draft)) (front-of b)
+    start-sending r now (needs-new-of validity now a && given (draft-given draft)) (front-of b)
     (front-sending b (valid-republished a v validity now draft) (republished-sending validity now draft a ∙ e)))
 
 -- the same of the list
@@ -233,24 +233,24 @@ module _ (s : Sender) (v : Valid s) (f : Fdt) (y : FdtSession) (taken : Bool) (s
 -- ---- the draft
 
 -- a draft of length 0 is none on both sides
-draft-view : (draft : Draft) → Def.draft-of (draft-of draft) ≡ draft-of (real-draft draft)
+draft-view : (draft : Draft) → Def.draft-of (draft-given draft) ≡ draft-given (real-draft draft)
 unfolding Def.draft-of real-draft
 draft-view Missing = refl
 draft-view (Given c) = by (eqb (c .size) 0)
   where
-    by : (b : Bool) → (if b then none else some c) ≡ draft-of (if b then Missing else Given c)
+    by : (b : Bool) → (if b then none else some c) ≡ draft-given (if b then Missing else Given c)
     by true = refl
     by false = refl
 
 -- it is refused for the same
-refusal-view : (u : Setup) (s : Sender) → Agrees u s → (draft : Draft) → Def.draft-refusal u (desk-of s .fdt) (draft-of draft) ≡ draft-test-of (real-draft draft) (s .fdt)
+refusal-view : (u : Setup) (s : Sender) → Agrees u s → (draft : Draft) → Def.draft-refusal u (desk-of s .fdt) (draft-given draft) ≡ draft-test-of (real-draft draft) (s .fdt)
 unfolding Def.draft-refusal draft-test-of desk-of
 refusal-view u s g draft = ap (maybe none said) (draft-view draft) ∙ by (real-draft draft)
   where
     said : Part → Option ℕ
     said c = first-of ((4, bad-blocks (u .sizes) (c .size)) ∷ (5, bad-fdt-part u (state-of (s .fdt .announcer)) c) ∷ [])
 
-    by : (d : Draft) → maybe none said (draft-of d) ≡ draft-test-of d (s .fdt)
+    by : (d : Draft) → maybe none said (draft-given d) ≡ draft-test-of d (s .fdt)
     by Missing = refl
     by (Given c) = λ i. first-of ((4, bad-blocks (g .sizes i) (c .size)) ∷ (5, sym (bad-said c u (s .fdt .settings .«fdt_store») (s .fdt .announcer) (g .fdt-store)) i) ∷ [])
 
@@ -307,11 +307,11 @@ module _ (s : Sender) (now : ℕ) (draft : Draft) (v : Valid s) where
   runs = fdt-ran-of (s .window) now (real-draft draft) (s .fdt) (s .«fdt_session»)
 
   module _ (e : draft-test-of (real-draft draft) (s .fdt) ≡ none) where
-    runs-means : (u : Setup) → SetFor u (s .window) (s .fdt .settings) → FdtTurns (s .window) (s .fdt) (fdt-run u now (draft-of (real-draft draft)) (desk-of s .fdt)) runs
+    runs-means : (u : Setup) → SetFor u (s .window) (s .fdt .settings) → FdtTurns (s .window) (s .fdt) (fdt-run u now (draft-given (real-draft draft)) (desk-of s .fdt)) runs
     unfolding desk-of
     runs-means u set = fdt-ran-means u (s .window) now (real-draft draft) (s .fdt) (s .«fdt_session») set (tries-ready s draft v e) (valid-stands s v)
 
-    run-done : Kept s (Def.Call.run-fdt now (draft-of draft)) (fdt-answer (runs .taken) (answer-of true 0 (runs .session .id) (runs .answer))) (onward s (runs .fdt) (runs .session))
+    run-done : Kept s (Def.Call.run-fdt now (draft-given draft)) (fdt-answer (runs .taken) (answer-of true 0 (runs .session .id) (runs .answer))) (onward s (runs .fdt) (runs .session))
     unfolding Def.step Def.fdt-ran
     run-done =
         let t = runs-means (set-up-of (s .window) (s .fdt .settings)) (record { window = refl; sizes = refl; validity = refl; carousel = refl }) in
@@ -327,21 +327,21 @@ module _ (s : Sender) (now : ℕ) (draft : Draft) (v : Valid s) where
               (ran-matched (s .window) now (real-draft draft) (s .fdt) (s .«fdt_session») (v .holds .valid) (v .matched));
         }
 
-  run-refused : (n : ℕ) → draft-test-of (real-draft draft) (s .fdt) ≡ some n → (a : Def.Answer) → Def.Answer.refused n ≡ a → Kept s (Def.Call.run-fdt now (draft-of draft)) a s
+  run-refused : (n : ℕ) → draft-test-of (real-draft draft) (s .fdt) ≡ some n → (a : Def.Answer) → Def.Answer.refused n ≡ a → Kept s (Def.Call.run-fdt now (draft-given draft)) a s
   unfolding Def.step
   run-refused n e a t = record {
-    means = λ u g. (λ i. Def.unless ((refusal-view u s g draft ∙ e) i) (desk-of s) (Def.fdt-ran u now (Def.draft-of (draft-of draft)) (desk-of s))) ∙ (λ i. (t i, desk-of s));
+    means = λ u g. (λ i. Def.unless ((refusal-view u s g draft ∙ e) i) (desk-of s) (Def.fdt-ran u now (Def.draft-of (draft-given draft)) (desk-of s))) ∙ (λ i. (t i, desk-of s));
     agrees = λ u g. g;
     valid = v;
   }
 
 -- refusals 4 and 5 in their order; else it is run
 pub run-fdt-kept : (s : Sender) (now : ℕ) (draft : Draft) → Valid s
-    → Kept s (Def.Call.run-fdt now (draft-of draft)) (fdt-answer (fdt-running-of now draft s .taken) (fdt-running-of now draft s .answer)) (fdt-running-of now draft s .sender)
+    → Kept s (Def.Call.run-fdt now (draft-given draft)) (fdt-answer (fdt-running-of now draft s .taken) (fdt-running-of now draft s .answer)) (fdt-running-of now draft s .sender)
 unfolding fdt-running-of
 run-fdt-kept s now draft v = by (draft-test-of (real-draft draft) (s .fdt)) refl (test-told (real-draft draft) (s .fdt))
   where
     by : (o : Option ℕ) → draft-test-of (real-draft draft) (s .fdt) ≡ o → Told o
-        → (let r = fdt-running-by now (real-draft draft) s o in Kept s (Def.Call.run-fdt now (draft-of draft)) (fdt-answer (r .taken) (r .answer)) (r .sender))
+        → (let r = fdt-running-by now (real-draft draft) s o in Kept s (Def.Call.run-fdt now (draft-given draft)) (fdt-answer (r .taken) (r .answer)) (r .sender))
     by none e t = run-done s now draft v e
     by (some n) e t = run-refused s now draft v n e _ t

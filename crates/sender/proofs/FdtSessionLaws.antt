@@ -20,7 +20,7 @@ use Rattle.lifecycle.specs.Setup.{bad-blocks}
 use Rattle.lifecycle.specs.Lifecycle.{may-start}
 use Rattle.lifecycle.specs.FileDesc.{plan-of, life-of}
 use Rattle.lifecycle.specs.Announce as Ann
-use Rattle.lifecycle.specs.Announce.{draft-of, no-instance, FdtValid, fdt-rule, needs-new-of, first-instance, queued-of, front-of, started-instance, done-instance, holding, start-of, republished-of, transferring-of, next-of, shares-fdt-of, bad-fdt-of}
+use Rattle.lifecycle.specs.Announce.{draft-given, no-instance, FdtValid, fdt-rule, needs-new-of, first-instance, queued-of, front-of, started-instance, done-instance, holding, start-of, republished-of, transferring-of, next-of, shares-fdt-of, bad-fdt-of}
 use Rattle.lifecycle.specs.Slots.{slot-at, is-free, queue-startable}
 use Rattle.lifecycle.specs.FdtCalls.{waiting, sends, completed-of, reserved-of, released-of, own-of, bad-part-of, put-of, named-of, fresh-of, numbered-of, added-of, listed-place, unlisted-of, freed-of, removed-of, triggered-of, taken-at, taken-of, goes-back, back-of, let-go-of, done-of, publish-of, draft-test-of, next-fdt-of, fdt-done-of}
 use Rattle.lifecycle.specs.FdtCalls.{Valid as ListValid}
@@ -127,12 +127,12 @@ module _ (r : Rule) (validity now : ℕ) (draft : Draft) where
   parts-next z a p v g = if-on (λ (n : NextFdt). Parts z (n .announcer)) (transferring-of a) (λ e. p) (λ e.
       let b = republished-of validity now draft a in
       let q = parts-republished z a p v validity now draft g in
-      parts-start z (front-of b) (parts-front z b q) r now (needs-new-of validity now a && given (draft-of draft)))
+      parts-start z (front-of b) (parts-front z b q) r now (needs-new-of validity now a && given (draft-given draft)))
 
   next-current : (a : Announcer) → Starts (next-of r validity now draft a)
   unfolding next-of
   next-current a = if-on Starts (transferring-of a) (λ e q. absurd (false≢true q))
-      (λ e. start-current r now (front-of (republished-of validity now draft a)) (needs-new-of validity now a && given (draft-of draft)))
+      (λ e. start-current r now (front-of (republished-of validity now draft a)) (needs-new-of validity now a && given (draft-given draft)))
 
 -- ---- FdtHolds is kept
 

@@ -11,7 +11,7 @@ use Rattle.sizes.proofs.Tests.{Tested, pass, fail, tested}
 use Rattle.lifecycle.specs.Setup.{Setup}
 use Rattle.lifecycle.specs.Fdt as DefState
 use Rattle.lifecycle.specs.FileDesc.{plan-of}
-use Rattle.lifecycle.specs.Announce.{instance-of, state-of, draft-of, fdt-rule}
+use Rattle.lifecycle.specs.Announce.{instance-of, state-of, draft-given, fdt-rule}
 use Rattle.lifecycle.specs.FdtCalls.{next-fdt-of, fdt-done-of}
 use Rattle.lifecycle.specs.declared.parts.Part.{Part}
 use Rattle.lifecycle.specs.declared.slots.Slot.{Slot}
@@ -93,7 +93,7 @@ after x y = record { busy = x .busy; id = x .id; encoder = y }
 -- ---- the next FDT
 
 -- a draft that was taken is not there any more
-draft-left : (draft : Draft) (taken : Bool) → draft-of (left-of draft taken) ≡ (if taken then none else draft-of draft)
+draft-left : (draft : Draft) (taken : Bool) → draft-given (left-of draft taken) ≡ (if taken then none else draft-given draft)
 draft-left draft true = refl
 draft-left draft false = refl
 
@@ -135,7 +135,7 @@ begins-stands w f x false n h c e = record { busy = λ t. absurd (false≢true (
 module _ (u : Setup) (w now : ℕ) (f : Fdt) (set : SetFor u w (f .settings)) (h : FdtHolds f) (draft : Draft) where
   -- what the definition asks for
   abbrev asked : DefState.Next
-  asked = DefState.next-fdt u now (draft-of draft) (state-of (f .announcer))
+  asked = DefState.next-fdt u now (draft-given draft) (state-of (f .announcer))
 
   ruled : plan-of (fdt-rule (f .settings .«from_start») (f .settings .interval)) ≡ DefState.fdt-plan u
   ruled = rule-said u (f .settings .«from_start») (f .settings .interval) (set .carousel)
@@ -231,7 +231,7 @@ module _ (u : Setup) (w now : ℕ) (g : Fdt) (set : SetFor u w (g .settings)) (a
         let d = DefState.next-fdt u now o (state-of (f .announcer)) in
         Def.fdt-send u now (taken || d .taken) again (record { state = d .state; hand = maybe none begun-said (d .starts) })
 
-    next-same : x .busy ≡ false → Def.fdt-send u now (taken || n .taken) again (fdt-of (n .fdt) y) ≡ sends-anew (if taken then none else draft-of draft)
+    next-same : x .busy ≡ false → Def.fdt-send u now (taken || n .taken) again (fdt-of (n .fdt) y) ≡ sends-anew (if taken then none else draft-given draft)
     next-same b =
         let hand : fdt-hand-of y ≡ maybe none begun-said (asked u w now f set-here (re .holds) (left-of draft taken) .starts) =
         begins-hand w (f .settings .sizes) x (n .fdt .announcer) (n .starts) b ∙ ap (maybe none begun-said) (asked-starts u w now f set-here (re .holds) (left-of draft taken)) in
@@ -239,14 +239,14 @@ module _ (u : Setup) (w now : ℕ) (g : Fdt) (set : SetFor u w (g .settings)) (a
         (record { state = asked-state u w now f set-here (re .holds) (left-of draft taken) i; hand = hand i }))
         ∙ ap sends-anew (draft-left draft taken)
 
-    attempted-means : FdtTurns w g (Def.fdt-attempt u now (draft-of draft) again taken (fdt-of f x)) (C (fdt-attempted-of w now draft taken f x))
+    attempted-means : FdtTurns w g (Def.fdt-attempt u now (draft-given draft) again taken (fdt-of f x)) (C (fdt-attempted-of w now draft taken f x))
     unfolding Def.fdt-attempt fdt-attempted-of
     attempted-means = go (tested (x .busy))
       where
         -- both attempts, by whether an FDT is in hand
         P : Bool → Type 0
         P b = FdtTurns w g
-            (if given (if b then handed u now taken again f x else none) then Def.fdt-send u now taken again (fdt-of f x) else sends-anew (if taken then none else draft-of draft))
+            (if given (if b then handed u now taken again f x else none) then Def.fdt-send u now taken again (fdt-of f x) else sends-anew (if taken then none else draft-given draft))
             (C (if b then fdt-sent-of now taken f x else fdt-sent-of now (taken || n .taken) (n .fdt) y))
 
         go : Tested (x .busy) → P (x .busy)
@@ -258,19 +258,19 @@ module _ (u : Setup) (w now : ℕ) (g : Fdt) (set : SetFor u w (g .settings)) (a
 module _ (u : Setup) (w now : ℕ) (draft : Draft) (f : Fdt) (x : FdtSession) (set : SetFor u w (f .settings)) (tries : FdtTries f w draft x) (st : FdtStands f w x) where
   -- the second round is the last
   second-means : (taken : Bool) (r : Fdt) (y : FdtSession) → Reached f taken r → FdtStands r w y
-      → FdtTurns w f (Def.fdt-attempt u now (draft-of draft) Def.fdt-idle taken (fdt-of r y)) (fdt-attempted-of w now draft taken r y)
+      → FdtTurns w f (Def.fdt-attempt u now (draft-given draft) Def.fdt-idle taken (fdt-of r y)) (fdt-attempted-of w now draft taken r y)
   second-means taken r y re s = attempted-means u w now f set Def.fdt-idle (λ a. a) (λ t g z. refl) (λ t s g z. refl)
       (λ t g k. record { view = refl; holds = k .holds; stands = fdt-idle-stands g w; slots = k .slots; same = k .same })
       draft (tries .looked) (tries .narrow) taken r y re s
 
-  pub fdt-ran-means : FdtTurns w f (Def.fdt-run u now (draft-of draft) (fdt-of f x)) (fdt-ran-of w now draft f x)
+  pub fdt-ran-means : FdtTurns w f (Def.fdt-run u now (draft-given draft) (fdt-of f x)) (fdt-ran-of w now draft f x)
   unfolding Def.fdt-run fdt-ran-of
-  fdt-ran-means = attempted-means u w now f set (Def.fdt-attempt u now (draft-of draft) Def.fdt-idle) (λ a. fdt-again-by w now draft a (a .answer)) (λ t g z. refl) (λ t s g z. refl)
+  fdt-ran-means = attempted-means u w now f set (Def.fdt-attempt u now (draft-given draft) Def.fdt-idle) (λ a. fdt-again-by w now draft a (a .answer)) (λ t g z. refl) (λ t s g z. refl)
       (λ t g k. second-means t g fdt-idle-of k (fdt-idle-stands g w))
       draft (tries .looked) (tries .narrow) false f x (record { holds = tries .holds; slots = refl; same = objects-same f }) st
 
   -- the same, part by part
-  pub fdt-ran-view : Def.fdt-run u now (draft-of draft) (fdt-of f x) ≡ fdt-turn-of (fdt-ran-of w now draft f x)
+  pub fdt-ran-view : Def.fdt-run u now (draft-given draft) (fdt-of f x) ≡ fdt-turn-of (fdt-ran-of w now draft f x)
   fdt-ran-view = fdt-ran-means .view
 
   pub fdt-ran-holds : FdtHolds (fdt-ran-of w now draft f x .fdt)

@@ -19,7 +19,7 @@ use Rattle.lifecycle.specs.Setup.{Setup as DefSetup}
 use Rattle.lifecycle.specs.Slots.{slot-at}
 use Rattle.lifecycle.specs.Announce.{bad-fdt-of}
 use Rattle.lifecycle.specs.FdtCalls.{with-tois, reserved-of, released-of, added-of, own-of, publish-of, publication-said, real-draft, draft-test-of}
-use Rattle.lifecycle.specs.FdtMeans.{Adds}
+use Rattle.lifecycle.specs.FdtMeans.{ListAdds}
 use Rattle.lifecycle.specs.declared.parts.Part.{Part}
 use Rattle.lifecycle.specs.declared.announce.Draft.{Draft}
 use Rattle.lifecycle.specs.declared.fdt.Added.{Added}
@@ -146,10 +146,10 @@ module _ (s : Sender) where
   refused-release t = maybe-on (λ (x : Changed). refuses (alloc-answer (Alloc.known-said (x .answer))) → with-list s (with-tois (s .fdt) (x .allocator)) ≡ s) (place (Alloc.entry-is t true) (Alloc.noted (s .fdt .tois)))
       (λ h e. refl) (λ i h e. absurd (false≢true e))
 
-  refused-added : (o : Object) (named : Named) (r : Added) → Adds (s .fdt) (request-of o) (own-of (request-of o .own) (s .fdt .settings .sizes)) named r
+  refused-added : (o : Object) (named : Named) (r : Added) → ListAdds (s .fdt) (request-of o) (own-of (request-of o .own) (s .fdt .settings .sizes)) named r
       → refuses (add-answer (admission-said (r .answer))) → with-list s (r .fdt) ≡ s
-  refused-added o named r (Adds.refused a n h) e = ap (λ (x : Added). with-list s (x .fdt)) h
-  refused-added o named r (Adds.admits k t h) e = absurd (false≢true (sym (ap (λ x. given (refusal-in (add-answer (admission-said x)))) (h .answer)) ∙ e))
+  refused-added o named r (ListAdds.refused a n h) e = ap (λ (x : Added). with-list s (x .fdt)) h
+  refused-added o named r (ListAdds.admits k t h) e = absurd (false≢true (sym (ap (λ x. given (refusal-in (add-answer (admission-said x)))) (h .answer)) ∙ e))
 
   refused-add : Valid s → (o : Object) (named : Named) → refuses (add-answer (adding-of o named s .answer)) → adding-of o named s .sender ≡ s
   unfolding adding-of

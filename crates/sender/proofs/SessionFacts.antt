@@ -11,7 +11,8 @@ use Rattle.sizes.proofs.AllocatorViews.{freed-view}
 use Rattle.lifecycle.specs.Slots.{no-slot, slot-at, queue-startable}
 use Rattle.lifecycle.specs.FdtCalls.{waiting, sends, used, taken-at, taken-of, goes-back, back-of, let-go-of, done-of}
 use Rattle.lifecycle.specs.FdtCalls.{Valid as ListValid}
-use Rattle.lifecycle.specs.FdtMeans.{file-at, Seen, started-slot, Takes, nothing, takes, ended-slot, Ends, idle, back, gone}
+use Rattle.lifecycle.specs.FdtCalls.{started-slot, ended-slot}
+use Rattle.lifecycle.specs.FdtMeans.{file-at, Seen, Takes, nothing, takes, Ends, idle, back, gone}
 use Rattle.lifecycle.specs.declared.filedesc.FileDesc.{FileDesc}
 use Rattle.lifecycle.specs.declared.slots.Slot.{Slot}
 use Rattle.lifecycle.specs.declared.fdt.Fdt.{Fdt}

@@ -23,7 +23,7 @@ use Rattle.lifecycle.specs.Slots.{no-slot, slot-at, holds-byte, published-slot}
 use Rattle.lifecycle.specs.Announce.{fdt-rule, next-of, bad-fdt-of, waits-of}
 use Rattle.lifecycle.specs.FdtCalls.{sends, used, completed-of, reserved-of, released-of, own-of, bad-part-of, refusal, added-of, listed-place, removed-of, triggered-of, taken-of, done-of, publish-of, next-fdt-of, fdt-done-of}
 use Rattle.lifecycle.specs.FdtCalls.{Valid as ListValid}
-use Rattle.lifecycle.specs.FdtMeans.{Seen, Adds, refused, admits, unknown, full, Removal, nobody, sent, waited, Takes, nothing, takes, is-taken, Ends, idle, back, gone}
+use Rattle.lifecycle.specs.FdtMeans.{Seen, ListAdds, refused, admits, unknown, full, Removal, nobody, sent, waited, Takes, nothing, takes, is-taken, Ends, idle, back, gone}
 use Rattle.lifecycle.specs.declared.parts.Part.{Part}
 use Rattle.lifecycle.specs.declared.filedesc.Time.{Time}
 use Rattle.lifecycle.specs.declared.filedesc.Life.{Life}
@@ -190,7 +190,7 @@ module _ (f : Fdt) (h : Holds f) where
 
       go : (r : Added) → ListValid (r .fdt)
           → refusal (r .answer) ≡ first-of ((3, f .complete) ∷ (4, bad-blocks z (q .part .size)) ∷ (5, bad-part-of f (q .part)) ∷ (6, unknown named f) ∷ (7, full named f) ∷ [])
-          → Adds f q z named r → Holds (r .fdt)
+          → ListAdds f q z named r → Holds (r .fdt)
       go r v a (refused b n e) = subst (λ (x : Added). Holds (x .fdt)) (sym e) h
       go r v a (admits k t w) =
           let c = first-none 3 (f .complete) (sym (ap refusal (w .answer)) ∙ a) in

@@ -13,7 +13,8 @@ use Rattle.lifecycle.specs.Lifecycle.{is-last}
 use Rattle.lifecycle.specs.FileDesc.{plan-of, life-of, startable-file}
 use Rattle.lifecycle.specs.FdtCalls.{waiting, files}
 use Rattle.lifecycle.specs.FdtCalls.{Valid as ListValid}
-use Rattle.lifecycle.specs.FdtMeans.{file-at, started-slot}
+use Rattle.lifecycle.specs.FdtCalls.{started-slot}
+use Rattle.lifecycle.specs.FdtMeans.{file-at}
 use Rattle.lifecycle.specs.declared.filedesc.FileDesc.{FileDesc}
 use Rattle.lifecycle.specs.declared.slots.Slot.{Slot}
 use Rattle.lifecycle.specs.declared.fdt.Fdt.{Fdt}

@@ -41,15 +41,6 @@ use Rattle.sender.specs.declared.setup.FdtCarousel.{FdtCarousel}
 use Rattle.sender.specs.declared.setup.FdtCarousel.the-variants as CarouselV
 use Rattle.sender.specs.declared.setup.Width.the-variants as WidthV
 
--- ---- tests
-
--- a test that passes leaves the answer to the next, and one that fails is the answer
-pub both : {a b x y : Bool} → x ≡ a → x ≡ true → y ≡ b → y ≡ (a && b)
-both {a} {b} e t f = f ∙ ap (λ q. q && b) (sym t ∙ e)
-
-pub not-first : (b : Bool) {a x : Bool} → x ≡ a → x ≡ false → x ≡ (a && b)
-not-first b e f = f ∙ ap (λ q. q && b) (sym f ∙ e)
-
 -- ---- every number in its range
 
 -- what an accepted set-up passes

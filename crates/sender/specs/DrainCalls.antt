@@ -7,7 +7,7 @@ use Rattle.sizes.specs.Words.{if_then_else_, maybe, within}
 use Rattle.sizes.specs.Limits.{largest-window, longest-store}
 use Rattle.lifecycle.specs.Setup.{bad-blocks}
 use Rattle.definition.specs.Encoder as Def
-use Rattle.sender.specs.EncoderCalls.{Valid, encoder-of, new-of, read-said}
+use Rattle.sender.specs.EncoderCalls.{Valid, encoder-of, new-of, read-of, read-said}
 use Rattle.sender.specs.declared.blockencoder.Content.{Content}
 use Rattle.sender.specs.declared.blockencoder.BlockEncoder.{BlockEncoder}
 use Rattle.sender.specs.declared.drain.Line.{Line}
@@ -34,6 +34,7 @@ abbrev pub line-of : Content → Def.Symbol → Line
 line-of c s = Packet (s .block) (s .symbol) (s .symbols) (s .payload .start - c .part .start) (s .payload .size) (s .close)
 
 pub record Turns (x : BlockEncoder) (r : Turned) : Type 0 where
+  pub exact : r .encoder ≡ read-of false x .encoder
   pub line : r .line ≡ maybe Over (line-of (x .content)) (read-said (false) x .0)
   pub next : encoder-of (r .encoder) ≡ read-said (false) x .1
   pub content : r .encoder .content ≡ x .content

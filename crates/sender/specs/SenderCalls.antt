@@ -10,15 +10,13 @@ use Rattle.sizes.specs.Words.{if_then_else_, any, collect, Counts}
 use Rattle.sizes.specs.Limits.{most-sessions, largest-window, longest-store}
 use Rattle.sizes.specs.Allocator as Alloc
 use Rattle.sizes.specs.declared.partition.Sizes.{Sizes}
-use Rattle.lifecycle.specs.Lifecycle as Life
 use Rattle.lifecycle.specs.Setup.{Setup as DefSetup}
 use Rattle.lifecycle.specs.FileDesc.{time-of, rule-named, carousel-named, target-named}
 use Rattle.lifecycle.specs.Slots.{no-slot, slot-at}
-use Rattle.lifecycle.specs.Announce.{state-of, draft-of}
-use Rattle.lifecycle.specs.FdtCalls.{files, sends, publication-said, transfers-said, real-draft, draft-test-of, reserved-of, released-of, added-of, removed-of, triggered-of, is-added-of, transfers-of, completed-of, publish-of}
+use Rattle.lifecycle.specs.Announce.{draft-given}
+use Rattle.lifecycle.specs.FdtCalls.{sends, publication-said, transfers-said, real-draft, draft-test-of, reserved-of, released-of, added-of, removed-of, triggered-of, is-added-of, transfers-of, completed-of, publish-of}
 use Rattle.lifecycle.specs.declared.parts.Part.{Part}
 use Rattle.lifecycle.specs.declared.filedesc.Time.{Time}
-use Rattle.lifecycle.specs.declared.filedesc.Carousel.{Carousel}
 use Rattle.lifecycle.specs.declared.announce.Draft.{Draft}
 use Rattle.lifecycle.specs.declared.fdt.Fdt.{Fdt}
 use Rattle.lifecycle.specs.declared.fdt.Own.{Own}
@@ -34,9 +32,9 @@ use Rattle.lifecycle.specs.declared.fdt.DraftTest.the-variants as DraftTestV
 use Rattle.definition.specs.FdtSession.{Packet as DefPacket}
 use Rattle.definition.specs.Desk as Def
 use Rattle.sender.specs.EncoderCalls.{symbol-said}
-use Rattle.sender.specs.SessionCalls.{Holds, object-of, session-of, idle-of, ran-of}
-use Rattle.sender.specs.FdtSessionCalls.{FdtHolds, fdt-hand-of, fdt-idle-of, fdt-ran-of}
-use Rattle.sender.specs.SessionMeans.{Stands, FdtInHand}
+use Rattle.sender.specs.SessionCalls.{Holds, session-of, idle-of, ran-of}
+use Rattle.sender.specs.FdtSessionCalls.{FdtHolds, fdt-idle-of, fdt-ran-of}
+use Rattle.sender.specs.SessionMeans.{queue-of, fdt-of, fdt-carousel-of, Stands, FdtInHand}
 use Rattle.sender.specs.declared.sendersession.SenderSession.{SenderSession}
 use Rattle.sender.specs.declared.fdtsession.FdtSession.{FdtSession}
 use Rattle.sender.specs.declared.sendersession.Served.{Served}
@@ -66,9 +64,9 @@ desk-of s = record {
   complete = s .fdt .complete;
   next = s .fdt .tois .next;
   loose = Alloc.loose (s .fdt .tois);
-  queue = map object-of (files (s .fdt));
+  queue = queue-of (s .fdt);
   sessions = map (session-of (s .fdt .slots)) (working s);
-  fdt = record { state = state-of (s .fdt .announcer); hand = fdt-hand-of (s .«fdt_session») };
+  fdt = fdt-of (s .fdt) (s .«fdt_session»);
 }
 
 -- the sender has the numbers of this set-up
@@ -78,7 +76,7 @@ pub record Agrees (u : DefSetup) (s : Sender) : Type 0 where
   pub object-store : u .object-store ≡ s .fdt .settings .«object_store»
   pub fdt-store : u .fdt-store ≡ s .fdt .settings .«fdt_store»
   pub width : u .width ≡ s .fdt .tois .width
-  pub carousel : u .carousel ≡ (if s .fdt .settings .«from_start» then Life.Carousel.interval (s .fdt .settings .interval) else Life.Carousel.delay (s .fdt .settings .interval))
+  pub carousel : u .carousel ≡ fdt-carousel-of (s .fdt .settings)
   pub validity : u .validity ≡ s .fdt .settings .validity
 
 -- ---- what set-up and every call give back, and the only premise of a call
@@ -100,7 +98,7 @@ pub record Valid (s : Sender) : Type 0 where
   pub spare : (i : ℕ) → s .count ≤ i → getD (s .sessions) i (idle-of 0) ≡ idle-of 0
   -- each slot in transfer is in one session's hand, and no other is
   pub in-hand : Counts no-slot sends (s .fdt .slots) (collect slot-in (working s))
-  -- what the FDT session has in hand is the current FDT, exactly while that is transferring
+  -- the FDT session has something in hand exactly while the current FDT is transferring
   pub fdt-busy : s .«fdt_session» .busy ≡ true → FdtInHand (s .fdt) (s .window) (s .«fdt_session»)
   pub fdt-idle : s .«fdt_session» .busy ≡ false → s .«fdt_session» ≡ fdt-idle-of
   pub matched : s .fdt .announcer .current .life .transferring ≡ s .«fdt_session» .busy
@@ -302,7 +300,7 @@ pub record Publishes (now : ℕ) (c : Part) (s : Sender) (r : Publishing) : Type
 
 pub record RunsFdt (now : ℕ) (draft : Draft) (s : Sender) (r : Running) : Type 0 where
   pub exact : r ≡ fdt-running-of now draft s
-  pub kept : Kept s (Def.Call.run-fdt now (draft-of draft)) (fdt-answer (r .taken) (r .answer)) (r .sender)
+  pub kept : Kept s (Def.Call.run-fdt now (draft-given draft)) (fdt-answer (r .taken) (r .answer)) (r .sender)
 
 pub record RunsFile (i now : ℕ) (s : Sender) (r : Running) : Type 0 where
   pub exact : r ≡ running-of i now s

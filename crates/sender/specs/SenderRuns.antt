@@ -6,7 +6,7 @@ use Prim.Native.Nat.{ℕ}
 use Rattle.sizes.specs.Words.{if_then_else_, given}
 use Rattle.sizes.specs.Allocator as Alloc
 use Rattle.lifecycle.specs.FileDesc.{time-of}
-use Rattle.lifecycle.specs.Announce.{draft-of}
+use Rattle.lifecycle.specs.Announce.{draft-given}
 use Rattle.lifecycle.specs.FdtCalls.{is-added-of, transfers-of, publication-said}
 use Rattle.lifecycle.specs.declared.parts.Part.{Part}
 use Rattle.lifecycle.specs.declared.filedesc.Time.{Time}
@@ -47,7 +47,7 @@ call-said (listed t) = Def.Call.listed t
 call-said (transfers t) = Def.Call.transfers t
 call-said complete = Def.Call.complete
 call-said (publish now c) = Def.Call.publish now c
-call-said (run-fdt now draft) = Def.Call.run-fdt now (draft-of draft)
+call-said (run-fdt now draft) = Def.Call.run-fdt now (draft-given draft)
 call-said (run-file i now) = Def.Call.run-file now i
 
 -- what the code answers, by the table's numbers, and the sender that it leaves: the functions that its contracts are exact by

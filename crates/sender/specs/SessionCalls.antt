@@ -1,4 +1,4 @@
--- The sessions as the code has them: what they mean, and what each function makes of them.
+-- The file sessions as the code has them: what they mean, and what each function makes of them.
 use mathlib.Core.Path.{_≡_}
 use mathlib.Core.Bool.{Bool, true, false, not, _&&_, _||_}
 use mathlib.Core.Option.{none, some}

@@ -108,12 +108,16 @@ pub record FdtStands (f : Fdt) (w : ℕ) (x : FdtSession) : Type 0 where
 
 -- ---- its run
 
+-- the carousel of the FDTs
+abbrev pub fdt-carousel-of : Settings → Carousel
+fdt-carousel-of z = if z .«from_start» then Carousel.interval (z .interval) else Carousel.delay (z .interval)
+
 -- the definition's set-up says what the settings say
 pub record SetFor (u : Setup) (w : ℕ) (z : Settings) : Type 0 where
   pub window : u .window ≡ w
   pub sizes : u .sizes ≡ z .sizes
   pub validity : u .validity ≡ z .validity
-  pub carousel : u .carousel ≡ (if z .«from_start» then Carousel.interval (z .interval) else Carousel.delay (z .interval))
+  pub carousel : u .carousel ≡ fdt-carousel-of z
 
 -- the FDT side, with what is in hand
 abbrev pub fdt-of : Fdt → FdtSession → DefFdt.Fdt

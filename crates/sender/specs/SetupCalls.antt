@@ -93,7 +93,7 @@ opening-of z = record {
   «fdt_session» = fdt-idle-of;
 }
 
--- a set-up that holds nothing, for where one is refused
+-- the set-up of the sender that a refused set-up gives
 abbrev pub plain : Setup
 plain = record {
   sizes = record { e = 1; b = 1 };

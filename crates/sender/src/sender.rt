@@ -248,6 +248,7 @@ impl Sender {
         self
     }
 
+    // The next object number, held from now on as a loose reservation.
     pub fn reserve(mut self) -> Reserving
         requires { ⌜ Valid self ⌝ }
         ensures { λ r. ⌜ Reserves self r ⌝ }
@@ -261,6 +262,7 @@ impl Sender {
         }
     }
 
+    // A loose reservation is let go.
     pub fn release(mut self, toi: u64) -> Releasing
         requires { ⌜ Valid self ⌝ }
         ensures { λ r. ⌜ Releases toi self r ⌝ }
@@ -274,6 +276,7 @@ impl Sender {
         }
     }
 
+    // The object with this number leaves the list; a session that sends it keeps it.
     pub fn remove(mut self, toi: u64) -> Telling
         requires { ⌜ Valid self ⌝ }
         ensures { λ r. ⌜ Removes toi self r ⌝ }
@@ -286,6 +289,7 @@ impl Sender {
         }
     }
 
+    // The object with this number may start anew, at the named start if one is given; one in transfer stays as it is.
     pub fn trigger(mut self, toi: u64, start: Time) -> Telling
         requires { ⌜ Valid self ⌝ }
         ensures { λ r. ⌜ Prompts toi start self r ⌝ }
@@ -298,6 +302,7 @@ impl Sender {
         }
     }
 
+    // Is an object with this number listed?
     pub fn listed(self, toi: u64) -> bool
         requires { ⌜ Valid self ⌝ }
         ensures { λ r. ⌜ Lists toi self r ⌝ }
@@ -305,6 +310,7 @@ impl Sender {
         self.fdt.is_added(toi)
     }
 
+    // How often the listed object with this number was sent.
     pub fn transfers(self, toi: u64) -> Transfers
         requires { ⌜ Valid self ⌝ }
         ensures { λ r. ⌜ Totals toi self r ⌝ }
@@ -312,6 +318,7 @@ impl Sender {
         self.fdt.nb_transfers(toi)
     }
 
+    // From now on no object is added.
     pub fn complete(mut self) -> Sender
         requires { ⌜ Valid self ⌝ }
         ensures { λ r. ⌜ Completes self r ⌝ }
@@ -320,6 +327,7 @@ impl Sender {
         self
     }
 
+    // The part is queued as the next FDT, and every listed object is published.
     pub fn publish(mut self, now: u64, part: Part) -> Publishing
         requires { ⌜ Valid self ⌝ }
         ensures { λ r. ⌜ Publishes now part self r ⌝ }
@@ -333,6 +341,7 @@ impl Sender {
         }
     }
 
+    // An object is listed, under the reservation that it names or the next number.
     pub fn add(mut self, o: Object, named: Named) -> Adding
         requires { ⌜ Valid self ⌝ }
         ensures { λ r. ⌜ Adds o named self r ⌝ }

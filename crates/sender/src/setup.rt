@@ -1,16 +1,17 @@
 // Set-up: what is named once, its ranges, and the sender before the first call.
 ghost use mathlib.Core.Path.{_≡_};
 ghost use Prim.Native.Nat.{_<_, _≤_};
-ghost use Rattle.sizes.specs.Words.{within};
 ghost use Rattle.sizes.specs.Limits.{largest-fdt-id};
 ghost use Rattle.sizes.specs.Allocator.{bits};
-ghost use Rattle.lifecycle.specs.Setup.{sound, sound-sizes};
+ghost use Rattle.lifecycle.specs.Setup.{sound};
 ghost use Rattle.sender.specs.SetupCalls.{setup-said, width-said, is-interval, interval-in, settings-of, priority-at, opening-of, plain, refused-of, Opens};
 use crate::fdtsession::FdtSession;
 use crate::sender::Sender;
 use crate::sendersession::SenderSession;
 use lifecycle::fdt::Fdt;
 use lifecycle::fdt::Settings;
+use lifecycle::fdt::are_sound_sizes;
+use lifecycle::fdt::is_within;
 use sizes::partition::Sizes;
 use sizes::toiallocator::ToiAllocator;
 use sizes::toiallocator::ToiMaxLength;
@@ -58,20 +59,6 @@ fn width_of(n: u64) -> Width
         64 => Width::Is(ToiMaxLength::ToiMax64),
         _ => Width::Bad,
     }
-}
-
-// Is the number in a range?
-fn is_within(low: u64, high: u64, n: u64) -> bool
-    ensures { λ r. ⌜ r ≡ within low high n ⌝ }
-{
-    low <= n && n <= high
-}
-
-// Are E and B in their ranges?
-fn are_sound_sizes(z: Sizes) -> bool
-    ensures { λ r. ⌜ r ≡ sound-sizes z ⌝ }
-{
-    is_within(1, 65535, z.e) && is_within(1, 65535, z.b)
 }
 
 // Is every number in its range? Every u32 is a priority.
@@ -165,7 +152,7 @@ fn open(z: Setup, w: ToiMaxLength) -> Sender
     }
 }
 
-// A set-up that holds nothing.
+// The set-up of the sender that a refused set-up gives.
 fn plain_setup() -> Setup
     ensures { λ r. ⌜ r ≡ plain ⌝ }
 {

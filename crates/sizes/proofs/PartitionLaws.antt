@@ -10,7 +10,7 @@ use borrow.Author.Tests.{ne-eqb}
 use Rattle.sizes.specs.Words.{ceil, sum-below}
 use Rattle.sizes.specs.Limits.{wide}
 use Rattle.sizes.specs.Partition.{sbn, symbols-of, split, no-blocks, partition-of, symbols-in, first-symbol, block-start, block-size, block-length}
-use Rattle.sizes.specs.PartitionPromises.{Empty, Parted, PartedBytes, InRange, Reached, block-bytes, short-by}
+use Rattle.sizes.specs.PartitionPromises.{Empty, Parted, PartedBytes, Admissible, Reached, block-bytes, short-by}
 use Rattle.sizes.specs.declared.numbers.Sbn.{Sbn}
 use Rattle.sizes.specs.declared.partition.Partition.{Partition}
 use Rattle.sizes.proofs.Arithmetic.{below-or, one-more, ceil-cases, ceil-enough, ceil-close, ceil-least, ceil-some}
@@ -312,8 +312,8 @@ module _ (b l e : ℕ) where
       pub reached : Reached l e (partition-of b l e)
       reached = record { large-fits = large-fits; small-fits = small-fits; start-fits = start-fits; inside = inside; outside = outside }
 
-  pub in-range-reached : InRange b l e → Reached l e (partition-of b l e)
-  in-range-reached a = reached (a .some-block) (a .some-symbol) (omega arith)
+  pub admissible-reached : Admissible b l e → Reached l e (partition-of b l e)
+  admissible-reached a = reached (a .some-block) (a .some-symbol) (omega arith)
 
   -- ---- nothing is cut exactly where b, e or l is 0
   pub some-blocks : 1 ≤ b → 1 ≤ e → 1 ≤ l → (1 ≤ partition-of b l e .blocks) × (1 ≤ partition-of b l e .large)

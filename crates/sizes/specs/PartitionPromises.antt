@@ -52,7 +52,7 @@ pub record PartedBytes (b l e : ℕ) (p : Partition) : Type 0 where
   pub all-bytes : sum-below (p .blocks) (λ k. block-bytes p l e (sbn k)) ≡ l
 
 -- symbol, block, block count and length are in their ranges
-pub record InRange (b l e : ℕ) : Type 0 where
+pub record Admissible (b l e : ℕ) : Type 0 where
   pub some-symbol : 1 ≤ e
   pub symbol : e ≤ largest-symbol
   pub some-block : 1 ≤ b
@@ -60,7 +60,7 @@ pub record InRange (b l e : ℕ) : Type 0 where
   pub blocks : partition-of b l e .blocks ≤ most-blocks
   pub long : l ≤ longest-store
 
--- in range no number passes 64 bits, and exactly the blocks below the count have a length
+-- then no number passes 64 bits, and exactly the blocks below the count have a length
 pub record Reached (l e : ℕ) (p : Partition) : Type 0 where
   pub large-fits : p .large * e < wide
   pub small-fits : p .small * e < wide

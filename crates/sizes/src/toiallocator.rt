@@ -165,14 +165,6 @@ impl ToiAllocator {
         false
     }
 
-    // Is the number held?
-    pub fn holds(self, toi: u64) -> bool
-        requires { ⌜ Valid self ⌝ }
-        ensures { λ r. ⌜ r ≡ has toi (held self) ⌝ }
-    {
-        self.has_entry(toi)
-    }
-
     // Where the entry of a loose reservation (or of an object) with this number stands.
     fn find(self, toi: u64, loose: bool) -> Place
         requires { ⌜ Valid self ⌝ }
@@ -216,7 +208,7 @@ impl ToiAllocator {
         a
     }
 
-    // The first number after `next` that is not held. At most 64 are held, so the search ends.
+    // The first number after `next` that is not held.
     fn next_free(self) -> u64
         requires { ⌜ Searchable self ⌝ }
         ensures { λ r. ⌜ r ≡ next-toi (self .width) (held self) (self .next) ⌝ }

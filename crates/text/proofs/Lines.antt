@@ -2,42 +2,16 @@
 use mathlib.Core.Path.{_≡_, refl, sym, ap, subst, _∙_}
 use mathlib.Core.List.{List, []}
 use mathlib.Core.Bool.{Bool, true}
-use mathlib.Core.Logic.{_⊎_, ⊎-elim}
-use Prim.Native.Nat.{ℕ, _+_, _-_, _<_, _≤_, zero-le}
+use mathlib.Core.Logic.{_⊎_}
+use Prim.Native.Nat.{ℕ, _-_, _≤_, zero-le}
 use native.Mathlib.Nat.{sub-zero}
 use native.Mathlib.Omega.{arith}
-use borrow.Author.Tests.{le-ltb, lt-ltb}
 use lib.ListN.{length, take, drop, length-take}
 use lib.Seq.{take-take, take-length, length-take-le}
 use Rattle.text.specs.Bytes.{in-line, pass, part}
-use Rattle.text.specs.Lines.{line-from, line-of, StartsWith, Added, Refilled, Taken, NextLine}
+use Rattle.text.specs.Lines.{line-of, StartsWith, Added, Refilled, Taken}
 use Rattle.text.specs.declared.line.Input.{Input}
-use Rattle.text.specs.declared.line.Line.{Line}
-use Rattle.text.specs.declared.line.Line.the-variants.{At, Open}
-use Rattle.text.proofs.Lists.{lt-or-le, pass-from, pass-within, part-in, part-length}
-
-module _ (s : List ℕ) (from : ℕ) where
-  pub line-none : length s ≤ pass in-line s from → line-from s from ≡ Open
-  unfolding line-from
-  line-none h = rw (le-ltb _ _ h)
-
-  pub line-some : pass in-line s from < length s → line-from s from ≡ At (pass in-line s from) (pass in-line s from + 1)
-  unfolding line-from
-  line-some h = rw (lt-ltb _ _ h)
-
-  -- a line's end is in s, behind `from`
-  pub line-inside : (end next : ℕ) → line-from s from ≡ At end next → (from ≤ end) × (end < next) × (next ≤ length s)
-  line-inside end next e =
-      ⊎-elim (λ (h : pass in-line s from < length s). let k = line-some h in let a : end ≡ pass in-line s from = cc in let b : next ≡ pass in-line s from + 1 = cc in (
-        omega (arith, pass-from in-line s from),
-        omega arith,
-        omega arith,
-      ))
-      (λ (h : length s ≤ pass in-line s from). let k = line-none h in let z : _≡_ {A = ℕ} 0 1 = cc in absurd (omega arith))
-      (lt-or-le (pass in-line s from) (length s))
-
-  pub next-line : (r : Line) → r ≡ line-from s from → NextLine s from r
-  next-line r e = record { exact = e; inside = λ i j h. line-inside i j (sym e ∙ h) }
+use Rattle.text.proofs.Lists.{pass-from, pass-within, part-in, part-length}
 
 pub starts-cut : (p l : List ℕ) (n : ℕ) → length p ≤ n → StartsWith p l → StartsWith p (take n l)
 starts-cut p l n h e = take-take (length p) n l h ∙ e

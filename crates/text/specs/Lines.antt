@@ -1,24 +1,13 @@
 -- Lines in a list of bytes, and a buffer that is filled again. Assumes nothing.
 use mathlib.Core.Path.{_≡_}
 use mathlib.Core.List.{List}
-use mathlib.Core.Bool.{Bool, true, false, cond}
+use mathlib.Core.Bool.{Bool, true, false}
 use mathlib.Core.Logic.{_⊎_}
-use Prim.Native.Nat.{ℕ, _+_, _-_, _<_, _≤_, min}
-use lib.Dec.{eqb, ltb}
+use Prim.Native.Nat.{ℕ, _+_, _-_, _≤_, min}
+use lib.Dec.{eqb}
 use lib.ListN.{length, take}
 use Rattle.text.specs.Bytes.{in-line, pass, part}
 use Rattle.text.specs.declared.line.Input.{Input}
-use Rattle.text.specs.declared.line.Line.{Line}
-use Rattle.text.specs.declared.line.Line.the-variants.{At, Open}
-
--- the line ends at the first line feed, and the next one starts behind that
-unfoldable pub line-from : List ℕ → ℕ → Line
-line-from s from = cond (ltb (pass in-line s from) (length s)) (At (pass in-line s from) (pass in-line s from + 1)) Open
-
--- what next_line answers is that end, and it is in s
-pub record NextLine (s : List ℕ) (from : ℕ) (r : Line) : Type 0 where
-  pub exact : r ≡ line-from s from
-  pub inside : (end next : ℕ) → r ≡ At end next → (from ≤ end) × (end < next) × (next ≤ length s)
 
 -- l starts with p
 abbrev pub StartsWith : List ℕ → List ℕ → Type 0

@@ -28,8 +28,6 @@ mod word;
 
 pub use bytes::part;
 pub use line::Input;
-pub use line::Line;
-pub use line::next_line;
 pub use line::refill;
 pub use line::take_line;
 pub use line::unread;

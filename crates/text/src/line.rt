@@ -3,29 +3,11 @@ ghost use mathlib.Core.Path.{_≡_};
 ghost use Prim.Native.Nat.{_+_, _≤_};
 ghost use lib.ListN.{length, take, drop};
 ghost use Rattle.text.specs.Bytes.{part};
-ghost use Rattle.text.specs.Lines.{NextLine, Refilled, Added, Taken, line-of, nothing-read};
+ghost use Rattle.text.specs.Lines.{Refilled, Added, Taken, line-of, nothing-read};
 use crate::bytes::Class;
 use crate::bytes::pass;
 
-// A line ends at the line feed at `end`, and the next starts at `next`; no line feed is left.
-pub enum Line {
-    At { end: usize, next: usize },
-    Open,
-}
-
-// The end of the line that `from` is in: the first line feed at or after it.
-pub fn next_line(s: &[u8], from: usize) -> Line
-    ensures { λ r. ⌜ NextLine (now (s .entry)) from r ⌝ }
-{
-    let end = pass(Class::InLine, s, from);
-    if s.len() <= end {
-        return Line::Open;
-    }
-    Line::At { end, next: end + 1 }
-}
-
-// Moves the bytes from..to of buf to its front (none where that is no part of buf), reads once to fill
-// what is left of buf, and answers how many bytes at the front of buf are filled.
+// Moves the bytes from..to of buf to its front, if it has them, reads once behind them, and answers how far buf is filled.
 pub fn refill(fd: i32, buf: &mut [u8], from: usize, to: usize) -> usize
     ensures { λ r. ⌜ Refilled (now (buf .entry)) from to (now (buf .exit)) r ⌝ }
 {

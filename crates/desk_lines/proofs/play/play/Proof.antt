@@ -1,10 +1,10 @@
 -- `desk_lines::play::play` meets its contract. Assumes nothing.
-use mathlib.Core.Path.{ap}
+use mathlib.Core.Path.{_∙_, ap}
 use borrow.Author.Needs.{needs}
 use mathlib.Core.List.{[], _∷_}
-use Rattle.desk_lines.specs.Plays.{asked}
+use Rattle.desk_lines.specs.Plays.{asked, alone, reply-with}
 use Rattle.desk_lines.specs.declared.command.Command.the-variants.{AddNowhere}
-use Rattle.desk_lines.proofs.PlayLaws.{still, answers-none, elsewhere, begins-set-up, begins-out, begins-wrong, begins-other}
+use Rattle.desk_lines.proofs.PlayLaws.{still, answers-none, elsewhere, begins-set-up, begins-out, begins-wrong, begins-other, stays-as, stays-none, calls, not-alone}
 use Rattle.desk_lines.proofs.play.play.Statement.{statement}
 use Rattle.desk_lines.proofs.play.play.Tie as tie
 
@@ -76,6 +76,7 @@ returns c =
     let m = c .before .before in (
       answers-none (ap asked (c .before .enum-told .given .1)) (elsewhere (0 ∷ []) (m .before .before .args .c) AddNowhere (m .match .keys1) tt) (still _ _ (search needs) (c .replied .ensures)),
       begins-other (0 ∷ []) (m .before .before .args .c) (m .match .keys1) tt tt tt,
+      stays-as (ap alone (c .before .enum-told .given .1)) (c .replied .ensures),
     )
 
 returns-2 : tie.Need-returns-2
@@ -83,6 +84,7 @@ returns-2 c =
     let m = c .before .before in (
       answers-none (ap asked (c .before .enum-told2 .given .1)) (elsewhere (1 ∷ []) (m .before .before .args .c) AddNowhere (m .match .keys2) tt) (still _ _ (search needs) (c .replied2 .ensures)),
       begins-wrong (c .before .enum-told2 .given .1) (c .replied2 .ensures),
+      stays-none (ap alone (c .before .enum-told2 .given .1)),
     )
 
 returns-3 : tie.Need-returns-3
@@ -90,6 +92,7 @@ returns-3 c =
     let m = c .before .before .before .before in (
       answers-none (ap asked (c .before .before .before .c .given .1)) (elsewhere (2 ∷ []) (m .before .before .args .c) AddNowhere (m .match .keys3) tt) (c .set-up .ensures .valid),
       begins-set-up _ (c .before .before .before .c .given .1) (c .before .setup-of .ensures) (c .set-up .ensures),
+      stays-none (ap alone (c .before .before .before .c .given .1)),
     )
 
 returns-4 : tie.Need-returns-4
@@ -97,6 +100,7 @@ returns-4 c =
     let m = c .before .before in (
       answers-none (ap asked (c .before .enum-told3 .given .1)) (elsewhere (3 ∷ []) (m .before .before .args .c) AddNowhere (m .match .keys4) tt) (c .shut .ensures .valid),
       begins-out (c .before .enum-told3 .given .1) (c .shut .ensures),
+      stays-none (ap alone (c .before .enum-told3 .given .1)),
     )
 
 returns-5 : tie.Need-returns-5
@@ -104,6 +108,7 @@ returns-5 c =
     let m = c .before .before .before .before in (
       answers-none (ap asked (c .before .before .before .c2 .given .1)) (elsewhere (16 ∷ []) (m .before .before .args .c) AddNowhere (m .match .keys5) tt) (still _ _ (search needs) (c .replied3 .ensures)),
       begins-other (16 ∷ []) (m .before .before .args .c) (m .match .keys5) tt tt tt,
+      stays-as (ap alone (c .before .before .before .c2 .given .1)) (c .replied3 .ensures ∙ ap (reply-with _ _) (c .before .partition .ensures)),
     )
 
 returns-6 : tie.Need-returns-6
@@ -111,6 +116,7 @@ returns-6 c =
     let m = c .before .before .before .before in (
       answers-none (ap asked (c .before .before .before .c3 .given .1)) (elsewhere (17 ∷ []) (m .before .before .args .c) AddNowhere (m .match .keys6) tt) (still _ _ (search needs) (c .replied4 .ensures)),
       begins-other (17 ∷ []) (m .before .before .args .c) (m .match .keys6) tt tt tt,
+      stays-as (ap alone (c .before .before .before .c3 .given .1)) (c .replied4 .ensures ∙ ap (reply-with _ _) (c .before .block-length .ensures)),
     )
 
 returns-7 : tie.Need-returns-7
@@ -118,6 +124,7 @@ returns-7 c =
     let m = c .before .before .before .before in (
       answers-none (ap asked (c .before .before .before .c4 .given .1)) (elsewhere (18 ∷ []) (m .before .before .args .c) AddNowhere (m .match .keys7) tt) (still _ _ (search needs) (c .replied5 .ensures)),
       begins-other (18 ∷ []) (m .before .before .args .c) (m .match .keys7) tt tt tt,
+      stays-as (ap alone (c .before .before .before .c4 .given .1)) (c .replied5 .ensures ∙ ap (reply-with _ _) (c .before .raw-length .ensures)),
     )
 
 returns-8 : tie.Need-returns-8
@@ -125,12 +132,13 @@ returns-8 c =
     let m = c .before .before .before in (
       answers-none (ap asked (c .before .before .c5 .given .1)) (elsewhere (19 ∷ []) (m .before .before .args .c) AddNowhere (m .match .keys8) tt) (still _ _ (search needs) (c .replied6 .ensures)),
       begins-other (19 ∷ []) (m .before .before .args .c) (m .match .keys8) tt tt tt,
+      stays-as (ap alone (c .before .before .c5 .given .1)) (c .replied6 .ensures),
     )
 
 returns-9 : tie.Need-returns-9
 returns-9 c =
     let m = c .before in
-    (c .called .ensures, begins-other (4 ∷ 5 ∷ 6 ∷ 7 ∷ 8 ∷ 9 ∷ 10 ∷ 11 ∷ 12 ∷ 13 ∷ 14 ∷ 15 ∷ []) (m .before .before .args .c) (m .match .keys9) tt tt tt)
+    (c .called .ensures, begins-other calls (m .before .before .args .c) (m .match .keys9) tt tt tt, stays-none (not-alone (m .before .before .args .c) (m .match .keys9)))
 
 pub play-spec : {M : Type 1} → statement M
 play-spec =

@@ -35,12 +35,12 @@ use Rattle.host.proofs.calls.sender_set_up.Code as code
 code-is : code.function ≡ answers₁-fn (tyRef (named 0) mut (pointee (T.the-row .written))) (lone (T.the-row .mir)) (lone (RG.the-row .mir)) (lone (u32 .mir)) (lone (Z.the-row .mir)) #called
 code-is = refl
 
-clauses-are : {M : Type 1} (𝓤 : URA M) (H : Heap 𝓤) (A : Atoms 𝓤) (W : Given 𝓤 H A) (at-mem : Memory → SProp 𝓤) (run : Routine → Fun 𝓤) → f.clauses 𝓤 H A at-mem run ≡ answers₁-clauses T.the-row u32 RG.the-row Z.the-row 𝓤 H A (sender 𝓤 H A W) (refusal 𝓤 H A W) (setup 𝓤 H A W) (refusing 𝓤 H A W) (λ s z. emp 𝓤) (λ s z t r. OpensLent z t r)
+clauses-are : {M : Type 1} (𝓤 : URA M) (H : Heap 𝓤) (A : Atoms 𝓤) (W : Given 𝓤 H A) (at-mem : Memory → SProp 𝓤) (run : Routine → Fun 𝓤) → f.clauses 𝓤 H A at-mem run ≡ answers₁-clauses T.the-row u32 RG.the-row Z.the-row 𝓤 H A (sender 𝓤 H A W) (refusal 𝓤 H A W) (setup 𝓤 H A W) (refusing 𝓤 H A W) (λ s z. emp 𝓤) (λ s z t r. OpensLent z s t r)
 clauses-are 𝓤 H A W at-mem run = refl
 
 meets : {M : Type 1} (𝓤 : URA M) (H : Heap 𝓤) (A : Atoms 𝓤) (W : Given 𝓤 H A) (at-mem : Memory → SProp 𝓤) (run : Routine → Fun 𝓤) (𝓣 : Tables 𝓤 H)
     → Triple 𝓤 (𝓣 .C #called) (tripleOf 𝓤 H A nx.signature (nx.spec 𝓤 H A at-mem run)) → Meets 𝓤 H A f.signature (WpFn 𝓤 H (𝓣 .C) (𝓣 .Λ) code.function) (f.spec 𝓤 H A at-mem run)
-meets 𝓤 H A W at-mem run 𝓣 = answers₁ T.the-row u32 RG.the-row Z.the-row 𝓤 H A (sender 𝓤 H A W) (refusal 𝓤 H A W) (setup 𝓤 H A W) (refusing 𝓤 H A W) (λ s z. emp 𝓤) (λ s z t r. OpensLent z t r) W 𝓣 #called
+meets 𝓤 H A W at-mem run 𝓣 = answers₁ T.the-row u32 RG.the-row Z.the-row 𝓤 H A (sender 𝓤 H A W) (refusal 𝓤 H A W) (setup 𝓤 H A W) (refusing 𝓤 H A W) (λ s z. emp 𝓤) (λ s z t r. OpensLent z s t r) W 𝓣 #called
 
 pub sender-set-up-spec : {M : Type 1} → stated.statement M
 unfolding code.routine tablesOf

@@ -22,7 +22,7 @@ returns : tie.Need-returns
 returns c =
     let x = c .before .before .before .before .before .args .x in
     let r = c .before .before .before .read .ensures in
-    record { line = ap (λ a. maybe Over (line-of (x .content)) a) (ap emitted-said (sym (c .enum-told .given .1)) ∙ r .said); next = r .next; content = r .content; width = r .width; valid = r .valid }
+    record { exact = ap (λ z. z .encoder) (r .exact); line = ap (λ a. maybe Over (line-of (x .content)) a) (ap emitted-said (sym (c .enum-told .given .1)) ∙ r .said); next = r .next; content = r .content; width = r .width; valid = r .valid }
 
 line-for-requires : tie.Need-line-for-requires
 line-for-requires c κs =
@@ -35,6 +35,7 @@ returns-2 c =
     let x = c .before .before .before .before .before .before .before .args .x in
     let r = c .before .before .before .before .before .read .ensures in
     record {
+      exact = ap (λ z. z .encoder) (r .exact);
       line = c .line-for .ensures ∙ ap (λ a. maybe Over (line-of (x .content)) a) (ap emitted-said (sym (c .before .before .answer .given .1)) ∙ r .said);
       next = r .next;
       content = r .content;

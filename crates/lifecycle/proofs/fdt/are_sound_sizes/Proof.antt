@@ -1,8 +1,8 @@
 use Rattle.lifecycle.specs.Setup.{sound-sizes}
-use Rattle.sender.proofs.SetupCallsLaws.{both, not-first}
+use Rattle.lifecycle.proofs.SetupLaws.{both, not-first}
 use borrow.Author.Needs.{needs}
-use Rattle.sender.proofs.setup.are_sound_sizes.Statement.{statement}
-use Rattle.sender.proofs.setup.are_sound_sizes.Tie as tie
+use Rattle.lifecycle.proofs.fdt.are_sound_sizes.Statement.{statement}
+use Rattle.lifecycle.proofs.fdt.are_sound_sizes.Tie as tie
 
 is-within-requires : tie.Need-is-within-requires
 is-within-requires c κs = search needs

@@ -1,6 +1,6 @@
 use borrow.Author.Tests.{le-leb, lt-leb}
-use Rattle.sender.proofs.setup.is_within.Statement.{statement}
-use Rattle.sender.proofs.setup.is_within.Tie as tie
+use Rattle.lifecycle.proofs.fdt.is_within.Statement.{statement}
+use Rattle.lifecycle.proofs.fdt.is_within.Tie as tie
 
 returns : tie.Need-returns
 returns c = rw (le-leb _ _ (c .if1 .taken))
