@@ -1,4 +1,5 @@
 #!/bin/sh
+# Builds the original as a program that plays scripts.
 # build.sh SOURCES BUILD
 #   SOURCES  a checkout of flute, or a folder with the files of sources.txt
 #   BUILD    a folder outside the repository; the program is BUILD/oracle

@@ -1,6 +1,5 @@
 -- What a run of a session comes to, case by case.
--- Assumes nothing.
-use mathlib.Core.Path.{_≡_, refl, sym, _∙_, ap}
+use mathlib.Core.Path.{_≡_, sym, _∙_, ap}
 use mathlib.Core.Bool.{Bool, true, false, not, _||_}
 use Prim.Native.Nat.{ℕ}
 use lib.Dec.{eqb}
@@ -13,7 +12,6 @@ use Rattle.sender.specs.SessionCalls.{forced-slot, service-by, served-of}
 use Rattle.sender.specs.SenderCalls.{answer-of}
 use Rattle.sender.specs.declared.blockencoder.Read.{Read}
 use Rattle.sender.specs.declared.blockencoder.Symbol.{Symbol}
-use Rattle.sender.specs.declared.blockencoder.Emitted.{Emitted}
 use Rattle.sender.specs.declared.blockencoder.Emitted.the-variants as EmittedV
 use Rattle.sender.specs.declared.sendersession.SenderSession.{SenderSession}
 use Rattle.sender.specs.declared.sendersession.Service.{Service}

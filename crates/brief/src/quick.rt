@@ -1,18 +1,11 @@
-// A packet in the middle of a transfer: it changes four numbers of the session and nothing else.
+// A packet in the middle of a transfer: it changes three numbers of the session and nothing else.
 ghost use mathlib.Core.Path.{_≡_};
-ghost use mathlib.Core.Bool.{true, false};
-ghost use Rattle.sender.specs.EncoderCalls.{Sound, Inside, is-empty, place-of, offset-of, payload-of};
 ghost use Rattle.brief.specs.Brief.{Valid};
-ghost use Rattle.brief.specs.Quick.{Steady, Midway, Quick, symbol-of};
-use lifecycle::parts::Part;
+ghost use Rattle.brief.specs.Quick.{Glances, no-numbers, is-due};
 use lifecycle::slots::Slot;
 use plain::told::Sent;
 use plain::told::told_run;
-use sender::block::Open;
-use sender::block::nb_source_symbols;
-use sender::blockencoder::BlockEncoder;
-use sender::blockencoder::Content;
-use sender::blockencoder::Symbol;
+use sender::blockencoder::Glance;
 use sender::sender::Packet;
 use sender::sender::RunAnswer;
 use sender::sendersession::SenderSession;
@@ -29,9 +22,9 @@ pub struct Numbers {
     pub answer: Sent,
 }
 
-// Not such a packet.
+// Not such a packet: zeros.
 fn none() -> Numbers
-    ensures { λ r. ⌜ r .done ≡ false ⌝ }
+    ensures { λ r. ⌜ r ≡ no-numbers ⌝ }
 {
     Numbers {
         done: false,
@@ -43,28 +36,9 @@ fn none() -> Numbers
     }
 }
 
-// Is the transfer under way, with a full window and blocks to open after it?
-fn is_steady(e: BlockEncoder) -> bool
-    ensures { λ r. ⌜ (r ≡ true → Steady e) ⌝ }
-{
-    if e.stopped {
-        return false;
-    }
-    if e.filled < e.width {
-        return false;
-    }
-    if e.filled == 0 {
-        return false;
-    }
-    if e.begun {
-        return (e.next.0 as u64) < e.content.partition.blocks;
-    }
-    false
-}
-
-// Is a packet due, in the middle of the transfer of a listed object?
-fn is_midway(x: SenderSession, t: Slot, waiting: usize, now: u64) -> bool
-    ensures { λ r. ⌜ (r ≡ true → Midway waiting now t x) ⌝ }
+// Is a packet of a listed object due?
+fn is_due(x: SenderSession, t: Slot, waiting: usize, now: u64) -> bool
+    ensures { λ r. ⌜ r ≡ is-due waiting now t x ⌝ }
 {
     if waiting != 0 {
         return false;
@@ -72,83 +46,23 @@ fn is_midway(x: SenderSession, t: Slot, waiting: usize, now: u64) -> bool
     if x.busy {
         if t.listed {
             let pace = x.pace;
-            if pace.is_early(now) {
-                return false;
-            }
-            return is_steady(x.encoder);
+            return !pace.is_early(now);
         }
     }
     false
 }
 
-// The place to visit.
-fn place(e: BlockEncoder) -> usize
-    ensures { λ r. ⌜ r ≡ place-of e ⌝ }
-{
-    if e.index < e.filled { e.index } else { 0 }
-}
-
-// Where a symbol begins in what is sent, in bytes.
-fn offset(c: Content, o: Open) -> u64
-    requires { ⌜ Sound c × Inside c o × (is-empty (c .partition) o ≡ false) ⌝ }
-    ensures { λ r. ⌜ r ≡ offset-of c o ⌝ }
-{
-    let p = c.partition;
-    let k = o.sbn.0 as u64;
-    let n = o.esi.0 as u64;
-    let e = c.sizes.e;
-    if k < p.bigs {
-        return (k * p.large + n) * e;
-    }
-    (p.bigs * p.large + (k - p.bigs) * p.small + n) * e
-}
-
-// Where its bytes stand in the store.
-fn payload(c: Content, o: Open) -> Part
-    requires { ⌜ Sound c × Inside c o × (is-empty (c .partition) o ≡ false) ⌝ }
-    ensures { λ r. ⌜ r ≡ payload-of c o ⌝ }
-{
-    let from = offset(c, o);
-    let part = c.part;
-    let e = c.sizes.e;
-    let rest = part.size - from;
-    Part {
-        start: part.start + from,
-        size: if e < rest { e } else { rest },
-    }
-}
-
-// What the packet says of it.
-fn shown(c: Content, o: Open) -> Symbol
-    requires { ⌜ Sound c × Inside c o × (is-empty (c .partition) o ≡ false) ⌝ }
-    ensures { λ r. ⌜ r ≡ symbol-of c o ⌝ }
-{
-    let sbn = o.sbn;
-    let esi = o.esi;
-    let payload = payload(c, o);
-    Symbol {
-        sbn,
-        esi,
-        symbols: nb_source_symbols(c.partition, sbn),
-        payload,
-        transfer_length: c.part.size,
-        close: false,
-    }
-}
-
+// The numbers after the packet that is due, where it only moves its block on; zeros for any other run.
 pub fn glance(x: SenderSession, t: Slot, waiting: usize, now: u64) -> Numbers
     requires { ⌜ Valid x ⌝ }
-    ensures { λ r. ⌜ (r .done ≡ true → Quick waiting now t x r) ⌝ }
+    ensures { λ r. ⌜ Glances waiting now t x r ⌝ }
 {
-    if is_midway(x, t, waiting, now) {
-        let e = x.encoder;
-        let p = place(e);
-        let o = e.window[p];
-        let c = e.content;
-        if o.is_empty(c.partition) {
+    if is_due(x, t, waiting, now) {
+        let g = x.encoder.glance();
+        let Glance::One(v) = g else {
             return none();
-        }
-        let symbol = shown(c, o);
+        };
+        let symbol = v.symbol;
         let pace = x.pace;
         let after = pace.ticked();
         let packet = Packet {
@@ -159,9 +73,9 @@ pub fn glance(x: SenderSession, t: Slot, waiting: usize, now: u64) -> Numbers
         };
         return Numbers {
             done: true,
-            place: p,
-            esi: Esi(o.esi.0 + 1),
-            next: p + 1,
+            place: v.place,
+            esi: Esi(symbol.esi.0 + 1),
+            next: v.place + 1,
             due: after.due,
             answer: told_run(false, RunAnswer::Packet(packet)),
         };

@@ -1,4 +1,4 @@
--- Laws on what commands ask of a sender. Assumes nothing.
+-- Laws on what commands ask of a sender.
 use mathlib.Core.Path.{_≡_, refl, subst, sym, _∙_, ap}
 use mathlib.Core.Bool.{Bool, true, false, not, true≢false}
 use mathlib.Core.List.{List, [], _∷_}

@@ -1,4 +1,4 @@
--- Laws on the bytes of a store, and on checksums. Assumes nothing.
+-- Laws on the bytes of a store, and on checksums.
 use mathlib.Core.Path.{_≡_, _∙_}
 use mathlib.Core.Bool.{Bool, true, false}
 use mathlib.Core.List.{List}

@@ -1,4 +1,4 @@
--- What a command's numbers stand for. Assumes nothing.
+-- What a command's numbers stand for.
 use mathlib.Core.List.{[], _∷_}
 use Rattle.sender.specs.declared.setup.Setup.{Setup}
 use Rattle.desk_lines.specs.declared.command.Opening.{Opening}

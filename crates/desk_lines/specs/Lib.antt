@@ -1,3 +1,4 @@
+-- Read in this order: Commands, Stores, Replies, Plays.
 pub mod Commands
 pub mod Plays
 pub mod Replies

@@ -1,4 +1,4 @@
--- What the commands ask of a sender, and what is promised of each: the definition's answer, and its desk. Assumes nothing.
+-- What the commands ask of a sender, and what is promised of each: the definition's answer, and its desk.
 use mathlib.Core.Path.{_≡_}
 use mathlib.Core.Bool.{Bool, true, false}
 use mathlib.Core.Option.{Option, none, some}

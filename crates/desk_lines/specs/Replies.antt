@@ -1,4 +1,4 @@
--- What a reply says, as the definition's answer. Assumes nothing.
+-- What a reply says, as the definition's answer.
 use mathlib.Core.Path.{_≡_}
 use mathlib.Core.Bool.{Bool, true, false}
 use mathlib.Core.Option.{Option, none, some}

@@ -1,4 +1,4 @@
--- The bytes of the two stores, and the checksum. Assumes nothing.
+-- The bytes of the two stores, and the checksum.
 use mathlib.Core.Path.{_≡_}
 use mathlib.Core.Bool.{Bool}
 use mathlib.Core.List.{List, [], _∷_}

@@ -1,4 +1,4 @@
--- Lines as the definition spells them, computed. Assumes nothing.
+-- Lines as the definition spells them, computed.
 use mathlib.Core.Path.{_≡_, refl}
 use mathlib.Core.Bool.{true, false}
 use mathlib.Core.List.{[], _∷_}

@@ -1,4 +1,4 @@
--- A flag as a number, and a field that is put into a buffer. Assumes nothing.
+-- A flag as a number, and a field that is put into a buffer.
 use mathlib.Core.Path.{_≡_, refl}
 use mathlib.Core.Bool.{Bool, true, false, cond}
 use mathlib.Core.List.{List, [], _∷_}

@@ -1,1 +1,2 @@
+-- The text of a transfer's lines.
 pub mod Lines

@@ -1,4 +1,4 @@
--- The text of a packet's line. Assumes nothing.
+-- The text of a packet's line.
 use mathlib.Core.Bool.{cond}
 use mathlib.Core.List.{List, [], _∷_, _++_}
 use Prim.Native.Nat.{ℕ}

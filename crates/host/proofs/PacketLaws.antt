@@ -1,18 +1,18 @@
--- What is told of a packet, case by case: where its payload stands, and its record. Assumes nothing.
+-- What is told of a packet, case by case: where its payload stands, and its record.
 use mathlib.Core.Path.{_≡_, refl, sym, _∙_, ap}
-use mathlib.Core.Bool.{Bool, true, false}
-use mathlib.Core.Option.{Option, none, some}
+use mathlib.Core.Bool.{true, false}
+use mathlib.Core.Option.{none, some}
 use mathlib.Core.List.{List}
 use Prim.Native.Nat.{ℕ}
 use lib.ListN.{length, take, drop}
-use Rattle.sizes.specs.Words.{if_then_else_, maybe, over}
+use Rattle.sizes.specs.Words.{if_then_else_, maybe}
 use Rattle.lifecycle.specs.Parts.{past-store}
 use Rattle.lifecycle.specs.declared.parts.Part.{Part}
 use Rattle.definition.specs.Payload.{Store, Stores, Place, no-place, bytes-of, store-of, place-of, payload-of}
 use Rattle.sender.specs.SenderCalls.{packet-said}
 use Rattle.sender.specs.declared.sender.RunAnswer.the-variants as RunV
 use Rattle.sender.proofs.PayloadLaws.{of-fdt, of-object}
-use Rattle.wire.specs.Record.{Said, write-said, write-answer, write-buffer, Writes}
+use Rattle.wire.specs.Record.{write-said, write-answer, write-buffer, Writes}
 use Rattle.wire.specs.declared.record.Record.{Record}
 use Rattle.wire.specs.declared.record.Writing.{Writing}
 use Rattle.wire.specs.declared.record.Writing.the-variants as WritingV

@@ -1,16 +1,14 @@
 -- Where `brief::settle` settles a run of a file session, the sender's run is that: nothing but the session changes.
--- Assumes nothing.
-use mathlib.Core.Path.{_≡_, refl, sym, _∙_, ap, subst}
-use mathlib.Core.Bool.{Bool, true, false, not, _||_, true≢false}
+use mathlib.Core.Path.{_≡_, refl, sym, _∙_, ap}
+use mathlib.Core.Bool.{Bool, true, false, _||_, true≢false}
 use Prim.Native.Nat.{ℕ, _<_, _≤_, _+_, _*_, _^_}
 use native.Mathlib.Omega.{arith}
 use native.Mathlib.Nat.{add-assoc}
 use borrow.Table.Elements.{at, at-mul}
 use lib.Dec.{T, ltb}
 use borrow.Author.Tests.{ltb-true, ltb-false}
-use lib.ListN.{getD, set}
+use lib.ListN.{getD}
 use Rattle.sizes.specs.Words.{if_then_else_}
-use Rattle.sizes.specs.Limits.{object-slots}
 use Rattle.lifecycle.specs.Lifecycle.{too-early}
 use Rattle.lifecycle.specs.FileDesc.{pace-said}
 use Rattle.lifecycle.specs.Slots.{slot-at}
@@ -28,7 +26,6 @@ use Rattle.sender.specs.declared.sendersession.Service.{Service}
 use Rattle.sender.specs.declared.sendersession.Served.{Served}
 use Rattle.sender.specs.declared.sendersession.Served.the-variants as ServedV
 use Rattle.sender.specs.declared.sendersession.Ran.{Ran}
-use Rattle.sender.specs.declared.sender.RunAnswer.{RunAnswer}
 use Rattle.sender.specs.declared.sender.Running.{Running}
 use Rattle.sender.specs.declared.sender.Sender.{Sender}
 use Rattle.sender.proofs.SenderKept.{runs, run-goes, ran-sender}
@@ -136,7 +133,7 @@ module _ (s : Sender) (ok : Valid s) (i now : ℕ) where
       (λ busy. let z = e ∙ goes (s .fdt .announcer .waiting) now t x busy in lent-by busy (sym (ap (λ (q : Settled). q .done) z) ∙ d) r z)
       (λ idle. absurd (true≢false (sym d ∙ ap (λ (q : Settled). q .done) (e ∙ idles (s .fdt .announcer .waiting) now t x idle))))
 
--- four numbers say how a run is settled
+-- three numbers say how a run is settled
 pub glances : (s : Sender) → Valid s → (i now : ℕ) (r : Numbers) → Quick (s .fdt .announcer .waiting) now (slot-at (s .fdt .slots) (session-at s i .slot)) (session-at s i) r
     → RunsFileLent i now s (with-session i (stepped (session-at s i) (r .place) (r .esi) (r .next) (r .due)) s) (r .answer)
 glances s ok i now r q = settles s ok i now (record { done = true; answer = r .answer; session = stepped (session-at s i) (r .place) (r .esi) (r .next) (r .due) }) (sym (q .exact)) refl

@@ -110,7 +110,7 @@ pub extern "C" fn sender_run_fdt(s: &mut Sender, at: u64, draft: Part) -> Sent
     r.answer
 }
 
-// File session i. In the middle of a transfer four numbers are stored; where nothing but the session changes, only it is.
+// File session i. In the middle of a transfer three numbers are stored; where nothing but the session changes, only it is.
 #[no_mangle]
 pub extern "C" fn sender_run(s: &mut Sender, i: u64, at: u64) -> Sent
     requires { ⌜ Valid (now s) ⌝ }

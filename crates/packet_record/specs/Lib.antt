@@ -1,1 +1,2 @@
+-- The record of a sender's packet.
 pub mod PacketRecord

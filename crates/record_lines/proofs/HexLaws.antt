@@ -1,4 +1,4 @@
--- Laws on hex: what each byte is as a digit, that what is put is read back, and the steps of the two loops. Assumes nothing.
+-- Laws on hex: what each byte is as a digit, that what is put is read back, and the steps of the two loops.
 use mathlib.Core.Path.{_≡_, refl, sym, ap, _∙_}
 use mathlib.Core.Bool.{Bool, true, false}
 use mathlib.Core.List.{List, [], _∷_, _++_, append-assoc, append-nil}

@@ -1,4 +1,4 @@
--- What it means that the numbers of a write fit. Assumes nothing.
+-- What it means that the numbers of a write fit.
 use mathlib.Core.Path.{_≡_}
 use mathlib.Core.Bool.{Bool, true, false, _&&_}
 use mathlib.Core.List.{List}

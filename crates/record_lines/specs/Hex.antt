@@ -1,4 +1,4 @@
--- Bytes in hex: two digits for each byte, the higher one first. Assumes nothing.
+-- Bytes in hex: two digits for each byte, the higher one first.
 use mathlib.Core.Path.{_≡_}
 use mathlib.Core.List.{List, [], _∷_, _++_}
 use mathlib.Core.Option.{Option, some, none}

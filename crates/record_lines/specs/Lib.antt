@@ -1,2 +1,3 @@
+-- What the record commands read and show: Hex, Numbers.
 pub mod Hex
 pub mod Numbers

@@ -1,4 +1,4 @@
--- The numbers of a command that writes a record. Assumes nothing.
+-- The numbers of a command that writes a record.
 use mathlib.Core.Bool.{Bool, _&&_}
 use mathlib.Core.List.{List}
 use Prim.Native.Nat.{ℕ, _^_}

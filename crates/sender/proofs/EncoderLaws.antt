@@ -123,6 +123,15 @@ place-inside x h = go (tested (ltb (x .index) (x .filled)))
     go (pass e) = rw e (ltb-true (x .index) (x .filled) e)
     go (fail e) = rw e h
 
+-- and a place of the window in any case
+pub place-low : (x : BlockEncoder) → Valid x → place-of x < 16
+unfolding place-of
+place-low x v = go (tested (ltb (x .index) (x .filled)))
+  where
+    go : Tested (ltb (x .index) (x .filled)) → (if ltb (x .index) (x .filled) then x .index else 0) < 16
+    go (pass e) = rw e (let h = ltb-true (x .index) (x .filled) e in let a = v .filled in let b = v .narrow in omega arith)
+    go (fail e) = rw e (omega arith)
+
 -- a place before the one that is left out
 getD-before : {A : Type 0} (z : A) (l : List A) (i j : ℕ) → j < i → getD (shut z l i) j z ≡ getD l j z
 getD-before z [] i zero h = refl

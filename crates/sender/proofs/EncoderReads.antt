@@ -1,26 +1,30 @@
 -- A read of the encoder is the definition's read.
-use mathlib.Core.Path.{_≡_, refl, sym, _∙_, ap}
-use mathlib.Core.Bool.{Bool, true, false, not, _&&_, _||_}
+use mathlib.Core.Path.{_≡_, refl, sym, _∙_, ap, subst}
+use mathlib.Core.Bool.{Bool, true, false, not, _&&_, _||_, and-false}
 use mathlib.Core.Option.{Option, none, some}
-use Prim.Native.Nat.{ℕ, zero, suc, _≤_, _<_}
+use mathlib.Core.List.{List, [], _∷_}
+use Prim.Native.Nat.{ℕ, zero, suc, _+_, _≤_, _<_}
 use native.Mathlib.Omega.{arith}
-use lib.Dec.{eqb}
-use borrow.Author.Tests.{eqb-true, eqb-false, ne-eqb, le-ltb}
-use lib.ListN.{length}
-use Rattle.sizes.specs.Words.{if_then_else_, maybe, at}
+use lib.Dec.{eqb, ltb}
+use borrow.Author.Tests.{eqb-true, eqb-false, ne-eqb, le-ltb, lt-leb, ltb-true, not-true}
+use lib.ListN.{length, take, set}
+use Rattle.sizes.specs.Words.{if_then_else_, maybe, at, all}
 use Rattle.sizes.specs.Limits.{largest-block}
-use Rattle.sizes.specs.Partition.{blocks-of}
+use Rattle.sizes.specs.Partition.{blocks-of, symbols-in}
 use Rattle.sizes.specs.declared.partition.Partition.{Partition}
-use Rattle.sizes.proofs.Tests.{Tested, pass, fail, tested}
+use Rattle.sizes.proofs.Tests.{Tested, pass, fail, tested, and-left, and-right}
 use Rattle.lifecycle.proofs.FdtFacts.{if-on}
 use Rattle.definition.specs.Encoder as Def
-use Rattle.sender.specs.EncoderCalls.{open-said, opened-blocks, encoder-of, is-empty, Valid, filled-of, place-of, stuck, without-of, drained-count, settled, ready-of, visit-of, moved-of, emptied-of, stopping-of, emitted-of, read-of, read-said, Reads}
+use Rattle.sender.specs.EncoderCalls.{open-said, opened-blocks, encoder-of, is-empty, Valid, has-room, filled-of, place-of, stuck, without-of, drained-count, settled, ready-of, last-of, next-symbol, closes-of, shown-of, visit-of, goes-on, midway, glance-of, moved-of, emptied-of, stopping-of, emitted-of, read-of, read-said, Reads, Steps}
+use Rattle.sender.specs.declared.block.Open.{Open}
 use Rattle.sender.specs.declared.blockencoder.Content.{Content}
 use Rattle.sender.specs.declared.blockencoder.BlockEncoder.{BlockEncoder}
+use Rattle.sender.specs.declared.blockencoder.Visit.{Visit}
+use Rattle.sender.specs.declared.blockencoder.Glance.the-variants as GlanceV
 use Rattle.sender.specs.declared.blockencoder.Emitted.the-variants.{One, Nothing}
 use Rattle.sender.specs.declared.blockencoder.Read.{Read}
 use Rattle.sender.proofs.Offsets.{few, left}
-use Rattle.sender.proofs.EncoderLaws.{valid-filled, valid-without, place-inside}
+use Rattle.sender.proofs.EncoderLaws.{filled-none, valid-filled, valid-without, place-inside}
 use Rattle.sender.proofs.EncoderViews.{place-view, open-none, drained-view, fill-view, without-view, visited, visited-view, free-visited, stuck-some, stuck-visited, moved-view, symbol-view, valid-moved, said, emptied-view, valid-flags}
 use Rattle.sender.proofs.EncoderCounts.{count-most, count-filled, count-without, settled-more, settled-end, filled-kept, ready-kept, valid-ready, ready-free}
 
@@ -191,3 +195,90 @@ visit-fits force x v h e =
     let i = place-inside x h in
     let a = v .each (place-of x) i in
     (i, omega (arith, left (x .content) (v .content) (visited x) a (free-visited x h e), few (x .content) (v .content) (visited x) a))
+
+-- ---- a read in the middle of a transfer
+
+-- what the test of it tells
+pub record Midway (x : BlockEncoder) : Type 0 where
+  pub going : x .stopped ≡ false
+  pub begun : x .begun ≡ true
+  pub full : has-room x ≡ false
+  pub filled : 0 < x .filled
+  pub free : stuck x ≡ false
+  pub more : goes-on x ≡ true
+
+pub midway-told : (x : BlockEncoder) → midway x ≡ true → Midway x
+unfolding midway
+midway-told x e =
+    let a = not (x .stopped) in
+    let b = a && x .begun in
+    let c = b && not (has-room x) in
+    let d = c && not (eqb (x .filled) 0) in
+    let f = d && not (stuck x) in
+    let ef = and-left f (goes-on x) e in
+    let ed = and-left d (not (stuck x)) ef in
+    let ec = and-left c (not (eqb (x .filled) 0)) ed in
+    let eb = and-left b (not (has-room x)) ec in
+    record {
+      going = not-true (x .stopped) (and-left a (x .begun) eb);
+      begun = and-right a (x .begun) eb;
+      full = not-true (has-room x) (and-right b (not (has-room x)) ec);
+      filled = let n = eqb-false (x .filled) 0 (not-true (eqb (x .filled) 0) (and-right c (not (eqb (x .filled) 0)) ed)) in omega arith;
+      free = not-true (stuck x) (and-right d (not (stuck x)) ef);
+      more = and-right f (goes-on x) e;
+    }
+
+-- one place that does not pass
+all-but : {A : Type 0} (ok : A → Bool) (l : List A) (n i : ℕ) (a : A) → i < n → i < length l → ok a ≡ false → all ok (take n (set l i a)) ≡ false
+all-but ok [] n i a h g e = absurd (omega arith)
+all-but ok (b ∷ l) zero i a h g e = absurd (omega arith)
+all-but ok (b ∷ l) (suc n) zero a h g e = rw e
+all-but ok (b ∷ l) (suc n) (suc i) a h g e = rw (all-but ok l n i a (omega arith) (omega arith) e, and-false)
+
+module _ (x : BlockEncoder) (v : Valid x) (m : Midway x) where
+  abbrev p : Partition
+  p = x .content .partition
+
+  abbrev o : Open
+  o = visited x
+
+  -- something remains after the symbol
+  remains : last-of x (place-of x) (next-symbol o) ≡ false
+  unfolding last-of is-empty
+  remains = go (tested (ltb (x .next .0) (p .blocks)))
+    where
+      go : Tested (ltb (x .next .0) (p .blocks)) → last-of x (place-of x) (next-symbol o) ≡ false
+      go (pass e) = rw (lt-leb (p .blocks) (x .next .0) (ltb-true (x .next .0) (p .blocks) e))
+      go (fail e) =
+          let h = place-inside x (m .filled) in
+          let more = ltb-true (o .esi .0 + 1) (symbols-in p (o .sbn)) (rw e at (m .more)) in
+          let full : is-empty p (next-symbol o) ≡ false = lt-leb (symbols-in p (o .sbn)) (o .esi .0 + 1) more in
+          let inn : place-of x < length (x .window) = let a = v .filled in let b = v .narrow in let d = v .long in omega arith in
+          rw (all-but (is-empty p) (x .window) (x .filled) (place-of x) (next-symbol o) h inn full, and-false)
+
+  -- so it closes nothing
+  stays-open : closes-of false x (place-of x) o ≡ false
+  stays-open = rw (remains, and-false)
+
+  -- nothing is opened or removed
+  ready-same : ready-of x ≡ x
+  unfolding ready-of
+  ready-same = ap (λ y. settled (drained-count y) y) (filled-none x (m .full)) ∙ settled-end x (m .free) (drained-count x)
+
+  midway-read : read-of false x ≡ record { answer = One (visit-of false x .symbol); encoder = moved-of x (visit-of false x) }
+  midway-read = read-goes false x (m .going) ∙ ap (λ b. emitted-of false (ready-of (stopping-of b x))) (sym (m .going)) ∙ ap (emitted-of false) ready-same ∙ emitted-some false x (ne-eqb (x .filled) 0 (λ q. let h = m .filled in absurd (omega arith)))
+
+  pub midway-visit : visit-of false x ≡ shown-of (x .content) (place-of x) o false
+  unfolding visit-of
+  midway-visit = rw stays-open
+
+  pub midway-steps : Steps x (visit-of false x)
+  unfolding visit-of
+  midway-steps = let f = visit-fits false x v (m .filled) (m .free) in record { read = midway-read; begun = m .begun; place = f .0; block = refl; symbol = f .1; close = stays-open }
+
+-- what a glance tells of the read
+pub glance-steps : (x : BlockEncoder) → Valid x → (s : Visit) → glance-of x ≡ GlanceV.One s → Steps x s
+unfolding glance-of
+glance-steps x v s = if-on (λ g. g ≡ GlanceV.One s → Steps x s) (midway x)
+    (λ e q. subst (Steps x) (cc) (midway-steps x v (midway-told x e)))
+    (λ e q. absurd (let z : _≡_ {A = ℕ} 0 1 = cc in omega arith))

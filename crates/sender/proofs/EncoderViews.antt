@@ -18,7 +18,7 @@ use Rattle.sizes.proofs.Lists.{map-set, map-append, map-cut, at-map}
 use Rattle.sizes.proofs.Arrays.{take-shut}
 use Rattle.sizes.proofs.Collects.{at-inside}
 use Rattle.definition.specs.Encoder as Def
-use Rattle.sender.specs.EncoderCalls.{open-said, opened-blocks, encoder-of, symbol-said, emitted-said, no-open, open-at, is-empty, Valid, has-room, one-opened, opened-of, filled-of, place-of, stuck, without-of, offset-of, closes-of, next-symbol, visit-of, moved-of, emptied-of}
+use Rattle.sender.specs.EncoderCalls.{open-said, opened-blocks, encoder-of, symbol-said, emitted-said, no-open, open-at, is-empty, Valid, has-room, one-opened, opened-of, filled-of, place-of, stuck, without-of, offset-of, last-of, next-symbol, visit-of, moved-of, emptied-of}
 use Rattle.sender.specs.declared.block.Open.{Open}
 use Rattle.sender.specs.declared.blockencoder.BlockEncoder.{BlockEncoder}
 use Rattle.sender.specs.declared.blockencoder.Read.{Read}
@@ -117,6 +117,10 @@ pub free-visited : (x : BlockEncoder) → 0 < x .filled → stuck x ≡ false �
 unfolding stuck
 free-visited x h e = ap (λ b. b && is-empty (x .content .partition) (visited x)) (sym (lt-ltb 0 (x .filled) h)) ∙ e
 
+pub visited-stuck : (x : BlockEncoder) → 0 < x .filled → (o : Open) → o ≡ visited x → (b : Bool) → is-empty (x .content .partition) o ≡ b → stuck x ≡ b
+unfolding stuck
+visited-stuck x h o q b e = ap (λ t. t && is-empty (x .content .partition) (visited x)) (lt-ltb 0 (x .filled) h) ∙ ap (is-empty (x .content .partition)) (sym q) ∙ e
+
 pub stuck-some : (x : BlockEncoder) → stuck x ≡ true → 0 < x .filled
 unfolding stuck
 stuck-some x e = ltb-true 0 (x .filled) (and-left (ltb 0 (x .filled)) (is-empty (x .content .partition) (visited x)) e)
@@ -143,7 +147,7 @@ module _ (x : BlockEncoder) (v : Valid x) (h : 0 < x .filled) (force : Bool) whe
   moved-view = λ i. record { closable = x .closable; next = x .next; window = moved-window i; index = add-one (place-of x) i; begun = true; stopped = x .stopped }
 
   pub symbol-view : symbol-said (visit-of force x .symbol) ≡ Def.symbol-of (x .content .part) (x .content .sizes) force (open-said (visited x)) (after x)
-  unfolding visit-of offset-of closes-of is-empty Def.symbol-of Def.nothing-left Def.drained Def.advanced
+  unfolding visit-of offset-of last-of is-empty Def.symbol-of Def.nothing-left Def.drained Def.advanced
   symbol-view = (λ i. F (x .content .partition) (closes i)) ∙ ap (λ p. F p (all (Def.drained p) (after x .window))) (v .content .cut)
     where
       F : Partition → Bool → Def.Symbol

@@ -7,7 +7,7 @@ use Prim.Native.Nat.{ℕ, zero, suc, _+_, _-_, _*_, _≤_, _<_, min}
 use lib.Dec.{eqb, ltb, leb}
 use lib.ListN.{length, getD, take, set, replicate}
 use Rattle.sizes.specs.Words.{if_then_else_, all, shut, tally}
-use Rattle.sizes.specs.Limits.{wide, largest-window}
+use Rattle.sizes.specs.Limits.{wide, largest-block, largest-window}
 use Rattle.sizes.specs.Partition.{sbn, esi, blocks-of, symbols-in, first-symbol}
 use Rattle.sizes.specs.declared.partition.Sizes.{Sizes}
 use Rattle.sizes.specs.declared.partition.Partition.{Partition}
@@ -19,6 +19,8 @@ use Rattle.sender.specs.declared.blockencoder.Content.{Content}
 use Rattle.sender.specs.declared.blockencoder.BlockEncoder.{BlockEncoder}
 use Rattle.sender.specs.declared.blockencoder.Symbol.{Symbol}
 use Rattle.sender.specs.declared.blockencoder.Visit.{Visit}
+use Rattle.sender.specs.declared.blockencoder.Glance.{Glance}
+use Rattle.sender.specs.declared.blockencoder.Glance.the-variants as GlanceV
 use Rattle.sender.specs.declared.blockencoder.Emitted.{Emitted}
 use Rattle.sender.specs.declared.blockencoder.Emitted.the-variants.{One, Nothing}
 use Rattle.sender.specs.declared.blockencoder.Read.{Read}
@@ -154,8 +156,8 @@ unfoldable pub offset-of : Content → Open → ℕ
 offset-of c o = (first-symbol (c .partition) (o .sbn) + o .esi .0) * c .sizes .e
 
 -- does nothing remain once the block at a place is as o says
-unfoldable pub closes-of : BlockEncoder → ℕ → Open → Bool
-closes-of x i o = leb (x .content .partition .blocks) (x .next .0) && all (is-empty (x .content .partition)) (take (x .filled) (set (x .window) i o))
+unfoldable pub last-of : BlockEncoder → ℕ → Open → Bool
+last-of x i o = leb (x .content .partition .blocks) (x .next .0) && all (is-empty (x .content .partition)) (take (x .filled) (set (x .window) i o))
 
 -- the block after one symbol more
 abbrev pub next-symbol : Open → Open
@@ -166,22 +168,31 @@ abbrev pub payload-of : Content → Open → Part
 payload-of c o = record { start = c .part .start + offset-of c o; size = min (c .sizes .e) (c .part .size - offset-of c o) }
 
 -- does a symbol of the block at a place close the transfer
-abbrev pub closing-of : Bool → BlockEncoder → ℕ → Open → Bool
-closing-of force x i o = force || (x .closable && closes-of x i (next-symbol o))
+abbrev pub closes-of : Bool → BlockEncoder → ℕ → Open → Bool
+closes-of force x i o = force || (x .closable && last-of x i (next-symbol o))
+
+-- what the block o at a place gives
+abbrev pub shown-of : Content → ℕ → Open → Bool → Visit
+shown-of c i o close = record {
+  place = i;
+  symbol = record { sbn = o .sbn; esi = o .esi; symbols = symbols-in (c .partition) (o .sbn); payload = payload-of c o; «transfer_length» = c .part .size; close = close };
+}
 
 -- the symbol that the block to visit gives
 unfoldable pub visit-of : Bool → BlockEncoder → Visit
-visit-of force x = let i = place-of x in let o = open-at x i in let c = x .content in record {
-  place = i;
-  symbol = record {
-    sbn = o .sbn;
-    esi = o .esi;
-    symbols = symbols-in (c .partition) (o .sbn);
-    payload = payload-of c o;
-    «transfer_length» = c .part .size;
-    close = closing-of force x i o;
-  };
-}
+visit-of force x = let i = place-of x in let o = open-at x i in shown-of (x .content) i o (closes-of force x i o)
+
+-- is a block left to open, or has the block to visit a symbol after its next one
+abbrev pub goes-on : BlockEncoder → Bool
+goes-on x = let p = x .content .partition in let o = open-at x (place-of x) in ltb (x .next .0) (p .blocks) || ltb (o .esi .0 + 1) (symbols-in p (o .sbn))
+
+-- is the transfer under way, with no block to open or to remove, and more to send after the next symbol
+unfoldable pub midway : BlockEncoder → Bool
+midway x = not (x .stopped) && x .begun && not (has-room x) && not (eqb (x .filled) 0) && not (stuck x) && goes-on x
+
+-- the next symbol, where reading it only moves its block and the index on
+unfoldable pub glance-of : BlockEncoder → Glance
+glance-of x = if midway x then GlanceV.One (visit-of false x) else GlanceV.Other
 
 -- a symbol was read, and the index moves on
 unfoldable pub moved-of : BlockEncoder → Visit → BlockEncoder
@@ -230,3 +241,14 @@ pub record Reads (force : Bool) (x : BlockEncoder) (r : Read) : Type 0 where
   pub content : r .encoder .content ≡ x .content
   pub width : r .encoder .width ≡ x .width
   pub valid : Valid (r .encoder)
+
+-- ---- what a glance tells of the read
+
+-- it only moves the block of the visit and the index on, and closes nothing
+pub record Steps (x : BlockEncoder) (v : Visit) : Type 0 where
+  pub read : read-of false x ≡ record { answer = One (v .symbol); encoder = moved-of x v }
+  pub begun : x .begun ≡ true
+  pub place : v .place < x .filled
+  pub block : v .symbol .sbn ≡ open-at x (v .place) .sbn
+  pub symbol : v .symbol .esi .0 < largest-block
+  pub close : v .symbol .close ≡ false

@@ -4,8 +4,7 @@ ghost use mathlib.Core.Bool.{true, false};
 ghost use Prim.Native.Nat.{_<_, _≤_};
 ghost use lib.ListN.{take};
 ghost use Rattle.sizes.specs.Words.{all, shut};
-ghost use Rattle.definition.specs.Encoder.{nothing-left};
-ghost use Rattle.sender.specs.EncoderCalls.{Valid, Inside, Reads, no-open, is-empty, open-at, new-of, has-room, one-opened, filled-of, place-of, stuck, without-of, ready-of, offset-of, payload-of, closes-of, closing-of, visit-of, moved-of, emptied-of, read-of};
+ghost use Rattle.sender.specs.EncoderCalls.{Valid, Inside, Reads, no-open, is-empty, open-at, new-of, has-room, one-opened, filled-of, place-of, stuck, without-of, ready-of, offset-of, payload-of, last-of, closes-of, shown-of, visit-of, midway, glance-of, moved-of, emptied-of};
 use crate::block::Open;
 use crate::block::nb_source_symbols;
 use crate::block::no_open;
@@ -53,6 +52,12 @@ pub struct Symbol {
 pub struct Visit {
     pub place: usize,
     pub symbol: Symbol,
+}
+
+// A visit that only moves its block and the index on; or the next read is another one.
+pub enum Glance {
+    One(Visit),
+    Other,
 }
 
 // A symbol, or that there is none to send.
@@ -234,7 +239,7 @@ impl BlockEncoder {
     // Does nothing remain once the block at `at` is as `o` says?
     fn is_last(self, at: usize, o: Open) -> bool
         requires { ⌜ Valid self × (at < self .filled) ⌝ }
-        ensures { λ r. ⌜ r ≡ closes-of self at o ⌝ }
+        ensures { λ r. ⌜ r ≡ last-of self at o ⌝ }
     {
         let p = self.content.partition;
         if (self.next.0 as u64) < p.blocks {
@@ -263,7 +268,7 @@ impl BlockEncoder {
     // Does a symbol of the block at `at` close the transfer? Forced, or it is the last of a transfer that closes.
     fn closes(self, at: usize, o: Open, force: bool) -> bool
         requires { ⌜ Valid self × (at < self .filled) × (o .esi .0 ≤ 65535) ⌝ }
-        ensures { λ r. ⌜ r ≡ closing-of force self at o ⌝ }
+        ensures { λ r. ⌜ r ≡ closes-of force self at o ⌝ }
     {
         if force {
             return true;
@@ -279,19 +284,16 @@ impl BlockEncoder {
         false
     }
 
-    // The symbol that the block to visit gives.
-    fn visit(self, force: bool) -> Visit
-        requires { ⌜ Valid self × (0 < self .filled) × (stuck self ≡ false) ⌝ }
-        ensures { λ r. ⌜ r ≡ visit-of force self ⌝ }
+    // What the block o at a place gives.
+    fn shown(self, place: usize, o: Open, close: bool) -> Visit
+        requires { ⌜ Valid self × Inside (self .content) o × (is-empty (self .content .partition) o ≡ false) ⌝ }
+        ensures { λ r. ⌜ r ≡ shown-of (self .content) place o close ⌝ }
     {
-        let place = self.place();
-        let o = self.window[place];
         let sbn = o.sbn;
         let esi = o.esi;
         let p = self.content.partition;
         let symbols = nb_source_symbols(p, sbn);
         let payload = self.payload(o);
-        let close = self.closes(place, o, force);
         Visit {
             place,
             symbol: Symbol {
@@ -303,6 +305,59 @@ impl BlockEncoder {
                 close,
             },
         }
+    }
+
+    // The symbol that the block to visit gives.
+    fn visit(self, force: bool) -> Visit
+        requires { ⌜ Valid self × (0 < self .filled) × (stuck self ≡ false) ⌝ }
+        ensures { λ r. ⌜ r ≡ visit-of force self ⌝ }
+    {
+        let place = self.place();
+        let o = self.window[place];
+        let close = self.closes(place, o, force);
+        self.shown(place, o, close)
+    }
+
+    // With o the block to visit: is the transfer under way, no block to be opened or removed, and more to send after its next symbol?
+    fn is_midway(self, o: Open) -> bool
+        requires { ⌜ o ≡ open-at self (place-of self) ⌝ }
+        ensures { λ r. ⌜ r ≡ midway self ⌝ }
+    {
+        if self.stopped {
+            return false;
+        }
+        if !self.begun {
+            return false;
+        }
+        if self.has_room() {
+            return false;
+        }
+        if self.filled == 0 {
+            return false;
+        }
+        let p = self.content.partition;
+        if o.is_empty(p) {
+            return false;
+        }
+        if (self.next.0 as u64) < p.blocks {
+            return true;
+        }
+        (o.esi.0 as u64) + 1 < nb_source_symbols(p, o.sbn)
+    }
+
+    // The next symbol, where reading it only moves its block and the index on: no block is to be opened or removed, and it does not end the transfer.
+    pub fn glance(self) -> Glance
+        requires { ⌜ Valid self ⌝ }
+        ensures { λ r. ⌜ r ≡ glance-of self ⌝ }
+    {
+        let place = self.place();
+        // Out of a copy of the window alone: an element of self's costs a copy of all of self.
+        let window = self.window;
+        let o = window[place];
+        if self.is_midway(o) {
+            return Glance::One(self.shown(place, o, false));
+        }
+        Glance::Other
     }
 
     // A symbol was read: its block is one symbol further, and the index moves on.

@@ -1,4 +1,4 @@
--- Laws on numbers in decimal, and on texts that are put into a buffer one behind another. Assumes nothing.
+-- Laws on numbers in decimal, and on texts that are put into a buffer one behind another.
 use mathlib.Core.Path.{_≡_, refl, sym, ap, _∙_}
 use mathlib.Core.List.{List, [], _∷_, _++_, append-assoc, append-nil}
 use mathlib.Core.Logic.{⊎-elim}

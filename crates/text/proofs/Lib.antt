@@ -1,3 +1,4 @@
+-- Laws on bytes, words, numbers and lines.
 pub mod Appends
 pub mod Lines
 pub mod Lists

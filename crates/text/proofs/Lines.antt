@@ -1,4 +1,4 @@
--- Laws on lines and on a buffer that is filled again. Assumes nothing.
+-- Laws on lines and on a buffer that is filled again.
 use mathlib.Core.Path.{_≡_, refl, sym, ap, subst, _∙_}
 use mathlib.Core.List.{List, []}
 use mathlib.Core.Bool.{Bool, true}

@@ -1,4 +1,4 @@
--- Laws on lists and tests that the loops cite. Assumes nothing.
+-- Laws on lists and tests that the loops cite.
 use mathlib.Core.Path.{_≡_, refl, sym, ap, _∙_}
 use mathlib.Core.List.{List, [], _∷_}
 use mathlib.Core.Bool.{Bool, true, false, _&&_, and-false}

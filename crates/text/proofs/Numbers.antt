@@ -1,4 +1,4 @@
--- Laws on numerals. Assumes nothing.
+-- Laws on numerals.
 use mathlib.Core.Path.{_≡_, refl, sym, _∙_}
 use mathlib.Core.List.{List, [], _∷_, _++_}
 use mathlib.Core.Bool.{true, false}

@@ -1,4 +1,4 @@
--- The numeral that io::decimal writes stands for the number it was made of. Assumes nothing.
+-- The numeral that io::decimal writes stands for the number it was made of.
 use mathlib.Core.Path.{_≡_, refl, ap, _∙_}
 use mathlib.Core.List.{List, [], _∷_, _++_}
 use mathlib.Core.Bool.{true}

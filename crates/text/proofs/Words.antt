@@ -1,4 +1,4 @@
--- Laws on words. Assumes nothing.
+-- Laws on words.
 use mathlib.Core.Path.{_≡_, refl, sym, ap, _∙_}
 use mathlib.Core.List.{List, [], _∷_}
 use mathlib.Core.Bool.{true, false, not}

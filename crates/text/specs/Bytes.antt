@@ -1,4 +1,4 @@
--- Classes of bytes, and how far a class goes. Assumes nothing.
+-- Classes of bytes, and how far a class goes.
 use mathlib.Core.List.{List, [], _∷_}
 use mathlib.Core.Bool.{Bool, cond, not, _&&_, _||_}
 use Prim.Native.Nat.{ℕ, suc, _+_, _-_}

@@ -1,3 +1,4 @@
+-- Read in this order: Bytes, Words, Numbers, Lines, Put.
 pub mod Bytes
 pub mod Lines
 pub mod Numbers

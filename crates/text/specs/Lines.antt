@@ -1,4 +1,4 @@
--- Lines in a list of bytes, and a buffer that is filled again. Assumes nothing.
+-- Lines in a list of bytes, and a buffer that is filled again.
 use mathlib.Core.Path.{_≡_}
 use mathlib.Core.List.{List}
 use mathlib.Core.Bool.{Bool, true, false}

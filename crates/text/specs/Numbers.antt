@@ -1,4 +1,4 @@
--- Decimal numerals. Assumes nothing.
+-- Decimal numerals.
 use mathlib.Core.Path.{_≡_}
 use mathlib.Core.List.{List, [], _∷_}
 use mathlib.Core.Bool.{Bool, true, cond, _&&_}

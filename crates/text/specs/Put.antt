@@ -1,4 +1,4 @@
--- Texts and numbers put into a buffer. Assumes nothing.
+-- Texts and numbers put into a buffer.
 use mathlib.Core.Path.{_≡_}
 use mathlib.Core.Bool.{cond}
 use mathlib.Core.List.{List, _++_}

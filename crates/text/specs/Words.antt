@@ -1,4 +1,4 @@
--- Words in a list of bytes. Assumes nothing.
+-- Words in a list of bytes.
 use mathlib.Core.Path.{_≡_}
 use mathlib.Core.List.{List, [], _∷_}
 use mathlib.Core.Bool.{Bool, true, false, cond, _&&_}

@@ -1,4 +1,4 @@
--- Records as the definition spells them, computed. Assumes nothing.
+-- Records as the definition spells them, computed.
 use mathlib.Core.Path.{_≡_, refl}
 use mathlib.Core.Bool.{true, false}
 use mathlib.Core.List.{List, [], _∷_, _++_}

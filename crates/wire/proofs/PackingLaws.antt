@@ -1,4 +1,4 @@
--- Laws of bit-packing, over any list of fields: joined and split again, split and joined again, and fields side by side. Assumes nothing.
+-- Laws of bit-packing, over any list of fields: joined and split again, split and joined again, and fields side by side.
 use mathlib.Core.Path.{_≡_, refl, sym, _∙_, ap}
 use mathlib.Core.Bool.{true}
 use mathlib.Core.List.{List, [], _∷_, _++_, map, map-append}

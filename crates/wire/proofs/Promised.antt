@@ -1,4 +1,4 @@
--- The promises on records hold: what is refused, what is written and read back, what is read and written again. Assumes nothing.
+-- The promises on records hold: what is refused, what is written and read back, what is read and written again.
 use mathlib.Core.Path.{_≡_, refl, sym, _∙_, ap, subst}
 use mathlib.Core.Bool.{Bool, true, false, _&&_, true≢false}
 use mathlib.Core.List.{List, [], _∷_, _++_}

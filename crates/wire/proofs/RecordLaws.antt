@@ -1,4 +1,4 @@
--- Laws of the record: which values fit, the record in words, and what its words hold. Assumes nothing.
+-- Laws of the record: which values fit, the record in words, and what its words hold.
 use mathlib.Core.Path.{_≡_, refl, sym, _∙_, ap}
 use mathlib.Core.Bool.{Bool, true, false}
 use mathlib.Core.List.{List, [], _∷_, _++_, append-assoc}

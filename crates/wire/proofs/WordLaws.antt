@@ -1,4 +1,4 @@
--- Laws of a word that is put into a buffer byte by byte, from its last byte to its first, and of one that is read. Assumes nothing.
+-- Laws of a word that is put into a buffer byte by byte, from its last byte to its first, and of one that is read.
 use mathlib.Core.Path.{_≡_, refl, sym, _∙_, ap}
 use mathlib.Core.List.{List, [], _∷_, _++_, append-assoc}
 use Prim.Native.Nat.{ℕ, suc, _+_, _*_, _/_, _%_, _^_, _<_, _≤_}

@@ -1,1 +1,2 @@
+// What goes over the wire: the packet record.
 pub mod record;

@@ -1,7 +1,4 @@
-use mathlib.Core.Path.{ap}
 use borrow.Author.Needs.{needs}
-use Rattle.plain.specs.declared.told.Sent.{Sent}
-use Rattle.brief.specs.declared.Settled.{Settled}
 use Rattle.brief.proofs.nothing.Statement.{statement}
 use Rattle.brief.proofs.nothing.Tie as tie
 

@@ -1,8 +1,5 @@
-use mathlib.Core.Path.{sym, _∙_, ap}
+use mathlib.Core.Path.{sym, _∙_}
 use borrow.Author.Needs.{needs}
-use Rattle.lifecycle.specs.declared.filedesc.Pace.{Pace}
-use Rattle.sender.specs.declared.sendersession.SenderSession.{SenderSession}
-use Rattle.brief.specs.declared.Settled.{Settled}
 use Rattle.brief.proofs.Cases.{idles, waits, early, ends, sends}
 use Rattle.brief.proofs.settle.Statement.{statement}
 use Rattle.brief.proofs.settle.Tie as tie

@@ -1,4 +1,4 @@
--- `desk_lines::answer_all` is safe and ends. The sender stays valid; the measure is the number of turns that are left. Assumes nothing.
+-- `desk_lines::answer_all` is safe and ends. The sender stays valid; the measure is the number of turns that are left.
 use borrow.Author.Needs.{needs}
 use Rattle.sender.specs.SenderCalls.{Valid}
 use Rattle.desk_lines.proofs.answer_all.Statement.{statement}

@@ -1,4 +1,4 @@
--- `drain_lines::put` meets its contract: the digits, and one byte behind them. Assumes nothing.
+-- `drain_lines::put` meets its contract: the digits, and one byte behind them.
 use native.Mathlib.Omega.{arith}
 use borrow.Author.Needs.{needs}
 use Rattle.drain_lines.proofs.Laws.{field-put}

@@ -1,4 +1,4 @@
--- `drain_lines::put_line` meets its contract: the six fields of a packet's line stand one behind another. Assumes nothing.
+-- `drain_lines::put_line` meets its contract: the six fields of a packet's line stand one behind another.
 use borrow.Author.Needs.{needs}
 use Rattle.drain_lines.specs.Lines.{line-text}
 use Rattle.text.proofs.Appends.{nothing-more, both}

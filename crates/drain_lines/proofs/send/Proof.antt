@@ -1,5 +1,5 @@
 -- `drain_lines::send` is safe and ends. The encoder stays valid, and no more of the buffer is in use than there is. The measure
--- is the number of turns that are left. Assumes nothing.
+-- is the number of turns that are left.
 use mathlib.Core.Path.{_≡_}
 use Prim.Native.Nat.{_≤_}
 use borrow.Author.Needs.{needs}

@@ -1,4 +1,4 @@
--- `packet_record::fields_of` meets its contract: each field is the packet's, and an object's packet has no id. Assumes nothing.
+-- `packet_record::fields_of` meets its contract: each field is the packet's, and an object's packet has no id.
 use mathlib.Core.Path.{_≡_, refl, _∙_}
 use mathlib.Core.Bool.{Bool, true, false}
 use mathlib.Core.Option.{none, some}

@@ -1,4 +1,4 @@
--- `packet_record::own_id` meets its contract. Assumes nothing.
+-- `packet_record::own_id` meets its contract.
 use Rattle.packet_record.proofs.own_id.Statement.{statement}
 use Rattle.packet_record.proofs.own_id.Tie as tie
 

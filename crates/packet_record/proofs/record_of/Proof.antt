@@ -1,4 +1,4 @@
--- `packet_record::record_of` meets its contract, by the kinds of answer. Assumes nothing.
+-- `packet_record::record_of` meets its contract, by the kinds of answer.
 use mathlib.Core.Path.{ap}
 use mathlib.Core.Option.{some}
 use borrow.Author.Needs.{needs}

@@ -1,4 +1,4 @@
--- `record_lines::put_fitting` is safe and ends: the numbers fit where they are taken. Assumes nothing.
+-- `record_lines::put_fitting` is safe and ends: the numbers fit where they are taken.
 use mathlib.Core.Path.{sym, _∙_}
 use borrow.Author.Needs.{needs}
 use borrow.Author.Tests.{not-false}

@@ -1,4 +1,4 @@
--- `record_lines::put_written` is safe and ends: the part of the buffer is as long as was asked for. Assumes nothing.
+-- `record_lines::put_written` is safe and ends: the part of the buffer is as long as was asked for.
 use mathlib.Core.Path.{sym}
 use native.Mathlib.Omega.{arith}
 use borrow.Author.Needs.{needs}

@@ -1,4 +1,4 @@
--- `sizes_cases::main` is safe and ends. The measure is the number of turns that are left. Assumes nothing.
+-- `sizes_cases::main` is safe and ends. The measure is the number of turns that are left.
 use borrow.Author.Needs.{needs}
 use Rattle.sizes_cases.proofs.main.Statement.{statement}
 use Rattle.sizes_cases.proofs.main.Tie as tie

@@ -1,4 +1,4 @@
--- `text_cases::answer` is safe and ends. The measure is what is left of the line. Assumes nothing.
+-- `text_cases::answer` is safe and ends. The measure is what is left of the line.
 use Prim.Native.Nat.{_-_}
 use borrow.Author.Needs.{needs}
 use lib.ListN.{length}

@@ -1,4 +1,4 @@
--- `text_cases::main` is safe and ends. The measure is the number of turns that are left. Assumes nothing.
+-- `text_cases::main` is safe and ends. The measure is the number of turns that are left.
 use borrow.Author.Needs.{needs}
 use Rattle.text_cases.proofs.main.Statement.{statement}
 use Rattle.text_cases.proofs.main.Tie as tie

@@ -1,4 +1,4 @@
--- `text_cases::put_next` meets its contract: a word ends behind the place from which it is looked for. Assumes nothing.
+-- `text_cases::put_next` meets its contract: a word ends behind the place from which it is looked for.
 use native.Mathlib.Omega.{arith}
 use borrow.Author.Needs.{needs}
 use Rattle.text_cases.proofs.put_next.Statement.{statement}

@@ -1,5 +1,5 @@
 -- `desk_lines::command::next_numbers` is safe and ends. No more numbers are read than are asked for; the measure is how many may
--- still be read. Assumes nothing.
+-- still be read.
 use Prim.Native.Nat.{_-_, _≤_}
 use borrow.Author.Needs.{needs}
 use Rattle.desk_lines.proofs.command.next_numbers.Statement.{statement}

@@ -1,4 +1,4 @@
--- `desk_lines::play::call` meets its contract. Assumes nothing.
+-- `desk_lines::play::call` meets its contract.
 use mathlib.Core.Path.{ap}
 use borrow.Author.Needs.{needs}
 use Rattle.desk_lines.specs.Plays.{asked}

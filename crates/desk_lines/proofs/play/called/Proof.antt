@@ -1,4 +1,4 @@
--- `desk_lines::play::called` meets its contract. Assumes nothing.
+-- `desk_lines::play::called` meets its contract.
 use borrow.Author.Needs.{needs}
 use Rattle.desk_lines.proofs.PlayLaws.{answers-open, answers-shut}
 use Rattle.desk_lines.proofs.play.called.Statement.{statement}

@@ -1,4 +1,4 @@
--- `desk_lines::play::play` meets its contract. Assumes nothing.
+-- `desk_lines::play::play` meets its contract.
 use mathlib.Core.Path.{_∙_, ap}
 use borrow.Author.Needs.{needs}
 use mathlib.Core.List.{[], _∷_}

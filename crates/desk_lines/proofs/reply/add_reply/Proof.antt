@@ -1,4 +1,4 @@
--- `desk_lines::reply::add_reply` meets its contract. Assumes nothing.
+-- `desk_lines::reply::add_reply` meets its contract.
 use borrow.Author.Needs.{needs}
 use Rattle.desk_lines.proofs.reply.add_reply.Statement.{statement}
 use Rattle.desk_lines.proofs.reply.add_reply.Tie as tie

@@ -1,4 +1,4 @@
--- `desk_lines::reply::given_reply` meets its contract. Assumes nothing.
+-- `desk_lines::reply::given_reply` meets its contract.
 use borrow.Author.Needs.{needs}
 use Rattle.desk_lines.proofs.reply.given_reply.Statement.{statement}
 use Rattle.desk_lines.proofs.reply.given_reply.Tie as tie

@@ -1,4 +1,4 @@
--- `desk_lines::reply::known_reply` meets its contract. Assumes nothing.
+-- `desk_lines::reply::known_reply` meets its contract.
 use borrow.Author.Needs.{needs}
 use Rattle.desk_lines.proofs.reply.known_reply.Statement.{statement}
 use Rattle.desk_lines.proofs.reply.known_reply.Tie as tie

@@ -1,4 +1,4 @@
--- `desk_lines::reply::set_up_reply` meets its contract. Assumes nothing.
+-- `desk_lines::reply::set_up_reply` meets its contract.
 use Rattle.desk_lines.proofs.reply.set_up_reply.Statement.{statement}
 use Rattle.desk_lines.proofs.reply.set_up_reply.Tie as tie
 

@@ -1,4 +1,4 @@
--- `desk_lines::store::checksum` meets its contract. The invariant: the checksum so far, with the bytes that are left, is the checksum of all. Assumes nothing.
+-- `desk_lines::store::checksum` meets its contract. The invariant: the checksum so far, with the bytes that are left, is the checksum of all.
 use mathlib.Core.Path.{_≡_, refl, sym, _∙_}
 use Prim.Native.Nat.{_<_, _≤_, _-_}
 use borrow.Author.Needs.{needs}

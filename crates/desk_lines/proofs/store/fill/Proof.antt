@@ -1,4 +1,4 @@
--- `desk_lines::store::fill` meets its contract. The invariant: the bytes so far are the store's. Assumes nothing.
+-- `desk_lines::store::fill` meets its contract. The invariant: the bytes so far are the store's.
 use mathlib.Core.Path.{_≡_, _∙_}
 use Prim.Native.Nat.{ℕ, _<_, _≤_, _-_}
 use native.Mathlib.Omega.{arith}

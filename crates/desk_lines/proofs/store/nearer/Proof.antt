@@ -1,4 +1,4 @@
--- `desk_lines::store::nearer` meets its contract. Assumes nothing.
+-- `desk_lines::store::nearer` meets its contract.
 use borrow.Author.Needs.{needs}
 use Rattle.desk_lines.specs.Stores.{nearer-of}
 use Rattle.desk_lines.proofs.store.nearer.Statement.{statement}

@@ -1,4 +1,4 @@
--- `desk_lines::store::period` meets its contract. Assumes nothing.
+-- `desk_lines::store::period` meets its contract.
 use borrow.Author.Needs.{needs}
 use Rattle.desk_lines.specs.Stores.{period-of}
 use Rattle.desk_lines.proofs.store.period.Statement.{statement}

@@ -1,4 +1,4 @@
--- `desk_lines::store::store_byte` meets its contract. Assumes nothing.
+-- `desk_lines::store::store_byte` meets its contract.
 use borrow.Author.Needs.{needs}
 use Rattle.desk_lines.specs.Stores.{byte-at}
 use Rattle.desk_lines.proofs.store.store_byte.Statement.{statement}

@@ -1,4 +1,4 @@
--- `desk_lines::store::with_byte` meets its contract. Assumes nothing.
+-- `desk_lines::store::with_byte` meets its contract.
 use mathlib.Core.Path.{refl}
 use native.Mathlib.Omega.{arith}
 use borrow.Author.Needs.{needs}

@@ -1,4 +1,4 @@
-use mathlib.Core.Path.{refl, subst}
+use mathlib.Core.Path.{subst}
 use Rattle.sender.specs.SetupCalls.{Opens}
 use Rattle.sender.specs.declared.setup.Setup.{Setup}
 use borrow.Author.Needs.{needs}

@@ -1,4 +1,4 @@
--- `host::record::answer_in` meets its contract. Assumes nothing.
+-- `host::record::answer_in` meets its contract.
 use borrow.Author.Needs.{needs}
 use Rattle.host.proofs.record.answer_in.Statement.{statement}
 use Rattle.host.proofs.record.answer_in.Tie as tie

@@ -1,7 +1,6 @@
--- `host::record::place_in` meets its contract. Assumes nothing.
-use mathlib.Core.Path.{sym, _∙_, ap}
+-- `host::record::place_in` meets its contract.
+use mathlib.Core.Path.{sym, _∙_}
 use borrow.Author.Needs.{needs}
-use Rattle.sizes.specs.Words.{if_then_else_}
 use Rattle.host.proofs.record.place_in.Statement.{statement}
 use Rattle.host.proofs.record.place_in.Tie as tie
 

@@ -1,4 +1,4 @@
--- `host::record::sender_payload` meets its contract, by the store. Assumes nothing.
+-- `host::record::sender_payload` meets its contract, by the store.
 use borrow.Author.Needs.{needs}
 use Rattle.host.proofs.PacketLaws.{of-none, of-an-fdt, of-an-object}
 use Rattle.host.proofs.record.sender_payload.Statement.{statement}

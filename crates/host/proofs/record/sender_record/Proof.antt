@@ -1,4 +1,4 @@
--- `host::record::sender_record` meets its contract. Assumes nothing.
+-- `host::record::sender_record` meets its contract.
 use mathlib.Core.Path.{sym, _∙_, ap}
 use borrow.Author.Needs.{needs}
 use Rattle.sizes.specs.Words.{over}

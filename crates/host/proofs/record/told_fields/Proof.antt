@@ -1,4 +1,4 @@
--- `host::record::told_fields` meets its contract: field by field. Assumes nothing.
+-- `host::record::told_fields` meets its contract: field by field.
 use mathlib.Core.Path.{refl}
 use Rattle.host.proofs.record.told_fields.Statement.{statement}
 use Rattle.host.proofs.record.told_fields.Tie as tie

@@ -1,4 +1,4 @@
--- `host::record::told_reading` meets its contract. Assumes nothing.
+-- `host::record::told_reading` meets its contract.
 use mathlib.Core.Path.{sym, _∙_, ap}
 use borrow.Author.Needs.{needs}
 use Rattle.host.specs.Record.{reading-told}

@@ -1,4 +1,4 @@
--- `record_lines::hex::digit` meets its contract. Assumes nothing.
+-- `record_lines::hex::digit` meets its contract.
 use borrow.Author.Tests.{lt-ltb, le-ltb}
 use borrow.Author.Needs.{needs}
 use Rattle.record_lines.specs.Hex.{digit-of}

@@ -1,4 +1,4 @@
--- `record_lines::hex::pair` meets its contract: a digit stands for less than 16. Assumes nothing.
+-- `record_lines::hex::pair` meets its contract: a digit stands for less than 16.
 use mathlib.Core.Path.{sym, _∙_}
 use native.Mathlib.Omega.{arith}
 use borrow.Author.Needs.{needs}

@@ -1,4 +1,4 @@
--- `record_lines::hex::put_byte` meets its contract. Assumes nothing.
+-- `record_lines::hex::put_byte` meets its contract.
 use borrow.Author.Needs.{needs}
 use Rattle.record_lines.specs.Hex.{byte-text}
 use Rattle.record_lines.proofs.hex.put_byte.Statement.{statement}

@@ -1,4 +1,4 @@
--- `record_lines::hex::put_hex` meets its contract. The invariant: where there is room, the first i bytes stand there. Assumes nothing.
+-- `record_lines::hex::put_hex` meets its contract. The invariant: where there is room, the first i bytes stand there.
 use mathlib.Core.Path.{_≡_, refl}
 use Prim.Native.Nat.{_+_, _-_, _*_, _≤_}
 use native.Mathlib.Omega.{arith}

@@ -1,5 +1,5 @@
 -- `record_lines::hex::read_hex` meets its contract. The invariant: the word spells the bytes read so far, and behind them what its
--- rest spells. Assumes nothing.
+-- rest spells.
 use mathlib.Core.Path.{_≡_, refl, sym, _∙_}
 use Prim.Native.Nat.{_-_, _*_, _≤_, _/_}
 use native.Mathlib.Omega.{arith}

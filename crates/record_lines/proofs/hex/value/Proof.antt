@@ -1,4 +1,4 @@
--- `record_lines::hex::value` meets its contract, range by range. Assumes nothing.
+-- `record_lines::hex::value` meets its contract, range by range.
 use mathlib.Core.Path.{sym}
 use native.Mathlib.Omega.{arith}
 use borrow.Author.Needs.{needs}

@@ -1,4 +1,4 @@
--- `record_lines::numbers::in_range` meets its contract, number by number. Assumes nothing.
+-- `record_lines::numbers::in_range` meets its contract, number by number.
 use mathlib.Core.Path.{sym}
 use native.Mathlib.Omega.{arith}
 use borrow.Author.Needs.{needs}

@@ -1,4 +1,4 @@
--- `record_lines::numbers::read_numbers` is safe and ends. The measure is how many numbers may still be read. Assumes nothing.
+-- `record_lines::numbers::read_numbers` is safe and ends. The measure is how many numbers may still be read.
 use Prim.Native.Nat.{_-_, _≤_}
 use borrow.Author.Needs.{needs}
 use Rattle.record_lines.proofs.numbers.read_numbers.Statement.{statement}

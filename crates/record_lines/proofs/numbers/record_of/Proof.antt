@@ -1,4 +1,4 @@
--- `record_lines::numbers::record_of` meets its contract. Assumes nothing.
+-- `record_lines::numbers::record_of` meets its contract.
 use mathlib.Core.Path.{refl}
 use native.Mathlib.Omega.{arith}
 use borrow.Author.Needs.{needs}

@@ -1,4 +1,4 @@
--- `text::bytes::is_blank` meets its contract: each `return` says which of the three tests of `blank` decides. Assumes nothing.
+-- `text::bytes::is_blank` meets its contract: each `return` says which of the three tests of `blank` decides.
 use borrow.Author.Tests.{eq-eqb, ne-eqb}
 use Rattle.text.specs.Bytes.{blank}
 use Rattle.text.proofs.bytes.is_blank.Statement.{statement}

@@ -1,4 +1,4 @@
--- `text::bytes::is_member` meets its contract, class by class. Assumes nothing.
+-- `text::bytes::is_member` meets its contract, class by class.
 use borrow.Author.Needs.{needs}
 use Rattle.text.specs.Bytes.{member, ink, in-line}
 use Rattle.text.proofs.bytes.is_member.Statement.{statement}

@@ -1,4 +1,4 @@
--- `text::bytes::part` meets its contract: the two tests say which case of `part` holds. Assumes nothing.
+-- `text::bytes::part` meets its contract: the two tests say which case of `part` holds.
 use mathlib.Core.Path.{sym}
 use borrow.Author.Needs.{needs}
 use Rattle.text.proofs.Lists.{part-in, part-turned, part-past}

@@ -1,4 +1,4 @@
--- `text::bytes::pass` meets its contract. The invariant: the run that is looked for ends where the run from i on ends. Assumes nothing.
+-- `text::bytes::pass` meets its contract. The invariant: the run that is looked for ends where the run from i on ends.
 use mathlib.Core.Path.{_≡_, refl, sym, _∙_}
 use Prim.Native.Nat.{_-_}
 use native.Mathlib.Omega.{arith}

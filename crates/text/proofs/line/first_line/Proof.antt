@@ -1,4 +1,4 @@
--- `text::line::first_line` meets its contract: `next` is the lesser of the two places that `line-of` names. Assumes nothing.
+-- `text::line::first_line` meets its contract: `next` is the lesser of the two places that `line-of` names.
 use mathlib.Core.Path.{sym}
 use Prim.Native.Nat.{_+_}
 use native.Mathlib.Omega.{arith}

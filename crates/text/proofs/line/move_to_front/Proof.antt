@@ -1,4 +1,4 @@
--- `text::line::move_to_front` meets its contract. The invariant: the first i bytes are moved, and from i on nothing has changed. Assumes nothing.
+-- `text::line::move_to_front` meets its contract. The invariant: the first i bytes are moved, and from i on nothing has changed.
 use mathlib.Core.Path.{_≡_, refl, _∙_}
 use Prim.Native.Nat.{_+_, _-_, _<_, _≤_}
 use native.Mathlib.Omega.{arith}

@@ -1,4 +1,4 @@
--- `text::line::read_at` meets its contract: a read into a part leaves what is before the part. Assumes nothing.
+-- `text::line::read_at` meets its contract: a read into a part leaves what is before the part.
 use Prim.Native.Nat.{_-_}
 use borrow.Author.Needs.{needs}
 use borrow.Rule.Slice.PartMut.{take-put}

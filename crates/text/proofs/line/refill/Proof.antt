@@ -1,4 +1,4 @@
--- `text::line::refill` meets its contract, with bytes kept and without. Assumes nothing.
+-- `text::line::refill` meets its contract, with bytes kept and without.
 use borrow.Author.Needs.{needs}
 use Rattle.text.proofs.Lists.{part-turned, part-past}
 use Rattle.text.proofs.Lines.{refilled-none, refilled-moved}

@@ -1,4 +1,4 @@
--- `text::line::take_from` meets its contract. The invariant: at..end of the buffer starts with what was pending at entry. The measure is the room that is left. Assumes nothing.
+-- `text::line::take_from` meets its contract. The invariant: at..end of the buffer starts with what was pending at entry. The measure is the room that is left.
 use mathlib.Core.Path.{_≡_, refl, _∙_, ap}
 use Prim.Native.Nat.{ℕ, _-_, _≤_}
 use native.Mathlib.Omega.{arith}

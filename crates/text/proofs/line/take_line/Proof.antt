@@ -1,4 +1,4 @@
--- `text::line::take_line` meets its contract: where next..to is no part of the buffer nothing is pending. Assumes nothing.
+-- `text::line::take_line` meets its contract: where next..to is no part of the buffer nothing is pending.
 use borrow.Author.Needs.{needs}
 use denote.Ref.{now}
 use Rattle.text.proofs.Lists.{part-none, part-turned, part-past}

@@ -1,4 +1,4 @@
--- `text::number::is_digit` meets its contract. Assumes nothing.
+-- `text::number::is_digit` meets its contract.
 use borrow.Author.Tests.{le-leb, lt-leb}
 use Rattle.text.specs.Numbers.{digit}
 use Rattle.text.proofs.number.is_digit.Statement.{statement}

@@ -1,4 +1,4 @@
--- `text::number::next_number` meets its contract: what is found of the word and of its number picks the case of `field-from`. Assumes nothing.
+-- `text::number::next_number` meets its contract: what is found of the word and of its number picks the case of `field-from`.
 use borrow.Author.Needs.{needs}
 use Rattle.text.specs.Numbers.{field-from, field-at, field-of}
 use Rattle.text.proofs.Numbers.{next-number}

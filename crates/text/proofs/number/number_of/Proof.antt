@@ -1,4 +1,4 @@
--- `text::number::number_of` meets its contract. The invariant: the bytes before i are digits, and n is what they stand for. Assumes nothing.
+-- `text::number::number_of` meets its contract. The invariant: the bytes before i are digits, and n is what they stand for.
 use mathlib.Core.Path.{_≡_, refl, sym, _∙_, ap}
 use Prim.Native.Nat.{ℕ, _-_, _<_, _≤_}
 use native.Mathlib.Omega.{arith}

@@ -1,4 +1,4 @@
--- `text::number::with_digit` meets its contract: v times 10 and a digit are summed only where the sum fits. Assumes nothing.
+-- `text::number::with_digit` meets its contract: v times 10 and a digit are summed only where the sum fits.
 use mathlib.Core.Path.{sym, _∙_}
 use native.Mathlib.Omega.{arith}
 use borrow.Author.Needs.{needs}

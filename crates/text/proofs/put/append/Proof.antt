@@ -1,4 +1,4 @@
--- `text::put::append` meets its contract. The invariant: the first i bytes of the text stand there. Assumes nothing.
+-- `text::put::append` meets its contract. The invariant: the first i bytes of the text stand there.
 use mathlib.Core.Path.{_≡_}
 use Prim.Native.Nat.{_+_, _-_, _≤_}
 use native.Mathlib.Numerals.{add-one}

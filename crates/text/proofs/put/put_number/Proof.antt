@@ -1,4 +1,4 @@
--- `text::put::put_number` meets its contract: the digits are as many as the number has. Assumes nothing.
+-- `text::put::put_number` meets its contract: the digits are as many as the number has.
 use native.Mathlib.Omega.{arith}
 use borrow.Author.Needs.{needs}
 use Rattle.text.specs.Put.{decimal}

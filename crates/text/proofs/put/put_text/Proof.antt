@@ -1,4 +1,4 @@
--- `text::put::put_text` meets its contract. Assumes nothing.
+-- `text::put::put_text` meets its contract.
 use native.Mathlib.Omega.{arith}
 use borrow.Author.Needs.{needs}
 use Rattle.text.proofs.Appends.{left-out, put-in}

@@ -1,4 +1,4 @@
--- `text::word::ended` meets its contract. Assumes nothing.
+-- `text::word::ended` meets its contract.
 use borrow.Author.Needs.{needs}
 use Rattle.text.proofs.word.ended.Statement.{statement}
 use Rattle.text.proofs.word.ended.Tie as tie

@@ -1,4 +1,4 @@
--- `text::word::is_word` meets its contract. The invariant: whether the two are the same is left to the bytes from i on. Assumes nothing.
+-- `text::word::is_word` meets its contract. The invariant: whether the two are the same is left to the bytes from i on.
 use mathlib.Core.Path.{_≡_, refl, sym, _∙_}
 use Prim.Native.Nat.{_-_, _≤_}
 use native.Mathlib.Omega.{arith}

@@ -1,4 +1,4 @@
--- `text::word::next_word` meets its contract. Assumes nothing.
+-- `text::word::next_word` meets its contract.
 use mathlib.Core.Path.{sym}
 use borrow.Author.Needs.{needs}
 use denote.Ref.{now}

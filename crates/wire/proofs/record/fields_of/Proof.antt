@@ -1,4 +1,4 @@
--- `wire::record::fields_of` meets its contract. Assumes nothing.
+-- `wire::record::fields_of` meets its contract.
 use mathlib.Core.Path.{refl}
 use borrow.Author.Needs.{needs}
 use Rattle.wire.specs.RecordWords.{record-in}

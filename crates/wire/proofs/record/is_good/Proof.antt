@@ -1,4 +1,4 @@
--- `wire::record::is_good` meets its contract: each value is tested against its width, and then the numbers. Assumes nothing.
+-- `wire::record::is_good` meets its contract: each value is tested against its width, and then the numbers.
 use mathlib.Core.Path.{sym, _∙_}
 use native.Mathlib.Omega.{arith}
 use borrow.Author.Needs.{needs}

@@ -1,4 +1,4 @@
--- `wire::record::is_well_named` meets its contract. Assumes nothing.
+-- `wire::record::is_well_named` meets its contract.
 use mathlib.Core.Path.{sym}
 use Rattle.wire.proofs.RecordLaws.{fdt-named, no-number, object-named}
 use Rattle.wire.proofs.record.is_well_named.Statement.{statement}

@@ -1,4 +1,4 @@
--- `wire::record::last` meets its contract. Assumes nothing.
+-- `wire::record::last` meets its contract.
 use native.Mathlib.Omega.{arith}
 use borrow.Author.Needs.{needs}
 use Rattle.wire.proofs.RecordLaws.{last-sum}

@@ -1,4 +1,4 @@
--- `wire::record::put` meets its contract. The loop's invariant: the bytes behind the first i stand in the buffer. Assumes nothing.
+-- `wire::record::put` meets its contract. The loop's invariant: the bytes behind the first i stand in the buffer.
 use mathlib.Core.Path.{_≡_, subst}
 use Prim.Native.Nat.{_+_, _-_}
 use native.Mathlib.Omega.{arith}

@@ -1,4 +1,4 @@
--- `wire::record::put_words` meets its contract: each word stands behind the one before. Assumes nothing.
+-- `wire::record::put_words` meets its contract: each word stands behind the one before.
 use borrow.Author.Needs.{needs}
 use Rattle.wire.proofs.WordLaws.{put-four}
 use Rattle.wire.proofs.record.put_words.Statement.{statement}

@@ -1,4 +1,4 @@
--- `wire::record::read` meets its contract: what the four words hold is what the bytes hold. Assumes nothing.
+-- `wire::record::read` meets its contract: what the four words hold is what the bytes hold.
 use mathlib.Core.Path.{_≡_, sym, _∙_}
 use borrow.Author.Tests.{not-true, not-false}
 use borrow.Author.Needs.{needs}

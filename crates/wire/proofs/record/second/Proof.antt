@@ -1,4 +1,4 @@
--- `wire::record::second` meets its contract: no sum passes 64 bits, since the values fit. Assumes nothing.
+-- `wire::record::second` meets its contract: no sum passes 64 bits, since the values fit.
 use native.Mathlib.Omega.{arith}
 use borrow.Author.Needs.{needs}
 use Rattle.wire.proofs.RecordLaws.{good-fit, second-sum}

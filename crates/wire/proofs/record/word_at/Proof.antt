@@ -1,4 +1,4 @@
--- `wire::record::word_at` meets its contract. The loop's invariant: w is what the first i bytes spell. Assumes nothing.
+-- `wire::record::word_at` meets its contract. The loop's invariant: w is what the first i bytes spell.
 use mathlib.Core.Path.{_≡_, refl, sym, _∙_, ap, subst}
 use Prim.Native.Nat.{_+_, _-_, _*_, _<_, _≤_, _^_}
 use native.Mathlib.Omega.{arith}

@@ -1,4 +1,4 @@
--- `wire::record::write` meets its contract: refused before a byte is touched, or the four words of the record are put. Assumes nothing.
+-- `wire::record::write` meets its contract: refused before a byte is touched, or the four words of the record are put.
 use mathlib.Core.Path.{sym, _∙_}
 use borrow.Author.Tests.{not-true, not-false}
 use borrow.Author.Needs.{needs}

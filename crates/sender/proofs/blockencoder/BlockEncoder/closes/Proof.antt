@@ -1,4 +1,4 @@
-use Rattle.sender.specs.EncoderCalls.{closes-of}
+use Rattle.sender.specs.EncoderCalls.{last-of}
 use borrow.Author.Needs.{needs}
 use Rattle.sender.proofs.blockencoder.BlockEncoder.closes.Statement.{statement}
 use Rattle.sender.proofs.blockencoder.BlockEncoder.closes.Tie as tie
@@ -13,7 +13,7 @@ is-last-requires : tie.Need-is-last-requires
 is-last-requires c κs = search needs
 
 returns-2 : tie.Need-returns-2
-unfolding closes-of
+unfolding last-of
 returns-2 c = rw (c .before .before .before .before .if1 .left, c .before .before .before .if2 .taken) (c .is-last .ensures)
 
 returns-3 : tie.Need-returns-3

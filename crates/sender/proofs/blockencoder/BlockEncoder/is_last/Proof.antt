@@ -1,4 +1,4 @@
-use Rattle.sender.specs.EncoderCalls.{closes-of}
+use Rattle.sender.specs.EncoderCalls.{last-of}
 use borrow.Author.Tests.{le-leb, lt-leb}
 use borrow.Author.Needs.{needs}
 use Rattle.sender.proofs.blockencoder.BlockEncoder.is_last.Statement.{statement}
@@ -8,7 +8,7 @@ cast-if1 : tie.Need-cast-if1
 cast-if1 c = search needs
 
 returns : tie.Need-returns
-unfolding closes-of
+unfolding last-of
 returns c = rw (lt-leb _ _ (c .if1 .taken))
 
 mul-window : tie.Need-mul-window
@@ -21,7 +21,7 @@ all-empty-requires : tie.Need-all-empty-requires
 all-empty-requires c κs = search needs
 
 returns-2 : tie.Need-returns-2
-unfolding closes-of
+unfolding last-of
 returns-2 c = rw (le-leb _ _ (c .before .before .if1 .left)) (c .all-empty .ensures)
 
 pub is-last-spec : {M : Type 1} → statement M
