@@ -30,4 +30,4 @@ table = record {
 
 pub drains : Drains
 unfolding drain drained-lines line-of opened-encoder
-drains = record { two-open = refl; three-open = refl; empty-object = refl }
+drains = record { two-open = refl; three-open = refl; unequal = refl; empty-object = refl }

@@ -76,6 +76,12 @@ pub record Drains : Type 0 where
   pub three-open : drain 10 2 2 3 ≡
       (0 ∷ 0 ∷ 2 ∷ 0 ∷ 2 ∷ 0 ∷ []) ∷ (1 ∷ 0 ∷ 2 ∷ 4 ∷ 2 ∷ 0 ∷ []) ∷ (2 ∷ 0 ∷ 1 ∷ 8 ∷ 2 ∷ 0 ∷ []) ∷ (0 ∷ 1 ∷ 2 ∷ 2 ∷ 2 ∷ 0 ∷ [])
       ∷ (1 ∷ 1 ∷ 2 ∷ 6 ∷ 2 ∷ 1 ∷ []) ∷ []
+  -- the window is filled again while one block is drained, and the last symbol is short
+  pub unequal : drain 25 2 4 2 ≡
+      (0 ∷ 0 ∷ 4 ∷ 0 ∷ 2 ∷ 0 ∷ []) ∷ (1 ∷ 0 ∷ 3 ∷ 8 ∷ 2 ∷ 0 ∷ []) ∷ (0 ∷ 1 ∷ 4 ∷ 2 ∷ 2 ∷ 0 ∷ []) ∷ (1 ∷ 1 ∷ 3 ∷ 10 ∷ 2 ∷ 0 ∷ [])
+      ∷ (0 ∷ 2 ∷ 4 ∷ 4 ∷ 2 ∷ 0 ∷ []) ∷ (1 ∷ 2 ∷ 3 ∷ 12 ∷ 2 ∷ 0 ∷ []) ∷ (0 ∷ 3 ∷ 4 ∷ 6 ∷ 2 ∷ 0 ∷ []) ∷ (2 ∷ 0 ∷ 3 ∷ 14 ∷ 2 ∷ 0 ∷ [])
+      ∷ (2 ∷ 1 ∷ 3 ∷ 16 ∷ 2 ∷ 0 ∷ []) ∷ (3 ∷ 0 ∷ 3 ∷ 20 ∷ 2 ∷ 0 ∷ []) ∷ (2 ∷ 2 ∷ 3 ∷ 18 ∷ 2 ∷ 0 ∷ []) ∷ (3 ∷ 1 ∷ 3 ∷ 22 ∷ 2 ∷ 0 ∷ [])
+      ∷ (3 ∷ 2 ∷ 3 ∷ 24 ∷ 1 ∷ 1 ∷ []) ∷ []
   pub empty-object : drain 0 4 2 2 ≡ (0 ∷ 0 ∷ 0 ∷ 0 ∷ 0 ∷ 1 ∷ []) ∷ []
 
 -- ---- runs of the whole desk
@@ -135,11 +141,11 @@ Script = List (Call × List ℕ)
 unfoldable pub Plays : Script → Type 0
 Plays l = map show (run setup (opening setup) (map (λ r. r .0) l) .0) ≡ map (λ r. r .1) l
 
--- reserve, add by name, add anew; nothing before publish, and nothing empty is published; the object is taken while the FDT is queued, and sent after it
+-- reserve, add by name, add anew; nothing before publish, and nothing empty is published; the object is taken while the FDT is queued, and sent after it; removed in its first transfer it is sent to its end
 unfoldable pub first-run : Script
 first-run =
     (Call.reserve, 1 ∷ 65_534 ∷ [])
-    ∷ (Call.add (some 65_534) (object 7 10 4 1), 1 ∷ 65_534 ∷ [])
+    ∷ (Call.add (some 65_534) (object 7 10 6 1), 1 ∷ 65_534 ∷ [])
     ∷ (Call.add none (object 3 20 2 2), 1 ∷ 65_535 ∷ [])
     ∷ (Call.add none (object 3 21 2 2), 0 ∷ 5 ∷ [])
     ∷ (Call.add (some 5) (object 3 30 2 2), 0 ∷ 6 ∷ [])
@@ -151,6 +157,7 @@ first-run =
     ∷ (Call.run-fdt 100 none, 4 ∷ 0 ∷ 0x100000 ∷ 0 ∷ 0 ∷ 0 ∷ 0 ∷ 2 ∷ 0 ∷ [])
     ∷ (Call.run-file 100 0, 4 ∷ 0 ∷ 0 ∷ 65_534 ∷ 0 ∷ 0 ∷ 10 ∷ 2 ∷ 0 ∷ [])
     ∷ (Call.remove 65_534, 2 ∷ 1 ∷ [])
+    ∷ (Call.run-file 100 0, 4 ∷ 0 ∷ 0 ∷ 65_534 ∷ 1 ∷ 0 ∷ 14 ∷ 2 ∷ 0 ∷ [])
     ∷ (Call.run-file 100 0, 4 ∷ 0 ∷ 0 ∷ 65_534 ∷ 0 ∷ 1 ∷ 12 ∷ 2 ∷ 1 ∷ [])
     ∷ (Call.run-file 100 0, 5 ∷ 0 ∷ [])
     ∷ (Call.listed 65_535, 2 ∷ 1 ∷ [])
