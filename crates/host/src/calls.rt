@@ -20,7 +20,7 @@ use plain::told::Numbered;
 use plain::told::Sent;
 use sender::sender::Sender;
 
-// Fills the sender; a refused set-up leaves what stood there, as zeros.
+// Fills the sender, where zeros may stand before; a refused set-up leaves what stood there.
 #[no_mangle]
 pub extern "C" fn sender_set_up(s: &mut Sender, z: PlainSetup) -> u32
     ensures { λ r. ⌜ OpensLent z (now (s .entry)) (now (s .exit)) r ⌝ }
