@@ -9,13 +9,15 @@ use lib.Dec.{eqb, leb}
 use borrow.Author.Tests.{eqb-true, eq-eqb, ne-eqb, leb-false, lt-leb}
 use lib.ListN.{length}
 use Rattle.sizes.specs.Words.{if_then_else_, maybe, given, any, at, first-of, over, Each}
+use Rattle.sizes.specs.declared.refusal.Refusal.{Refusal}
+use Rattle.sizes.specs.declared.refusal.Refusal.the-variants as Because
 use Rattle.sizes.specs.Limits.{object-slots}
 use Rattle.lifecycle.specs.Parts.{shares, past-store}
 use Rattle.lifecycle.specs.declared.parts.Part.{Part}
 use Rattle.lifecycle.specs.Setup.{Setup, bad-blocks}
 use Rattle.definition.specs.Session.{Object, Hand, Session}
 use Rattle.definition.specs.Desk.{Desk, Request, Call, Answer, opening, in-hands, objects, is, reserved, toi-for, admitted, own-sizes, no-session, bad-object-part, not-loose, full, no-room, add-refusal, Result, unless, step}
-use Rattle.definition.specs.Apart.{mine, owns, about, adding, number-in, noted, key, call-by, answer-by, is-5-to-7, turned-away}
+use Rattle.definition.specs.Apart.{mine, owns, about, adding, number-in, noted, key, call-by, answer-by, is-barred, turned-away}
 use Rattle.definition.proofs.Numbers.{Unique, unique-step, unique-opening, tois, admissible}
 use Rattle.definition.proofs.View.{retag, retag-held, seen, see, seen-append}
 use Rattle.definition.proofs.Known.{Noted, Fits, Known, known-step, known-opening}
@@ -169,14 +171,14 @@ module _ (s : Setup) (p : ℕ) (j : List ℕ) (d : Desk) (i : List ℕ) (e : Des
   early-there q = sym (early-seen p i s e q) ∙ ap (λ v. early-refusal s v q) (sym (r .same)) ∙ early-seen p j s d q
 
 -- rows 5, 6 and 7 are not reached
-unreached : (a b c d e f : Bool) → (first-of ((2, a) ∷ (3, b) ∷ (4, c) ∷ []) ≡ none → (d ≡ false) × (e ≡ false) × (f ≡ false))
-    → late-no (first-of ((2, a) ∷ (3, b) ∷ (4, c) ∷ (5, d) ∷ (6, e) ∷ (7, f) ∷ [])) ≡ false
+unreached : (a b c d e f : Bool) → (first-of ((Because.NoPriority, a) ∷ (Because.Complete, b) ∷ (Because.Sizes, c) ∷ []) ≡ none → (d ≡ false) × (e ≡ false) × (f ≡ false))
+    → late-no (first-of ((Because.NoPriority, a) ∷ (Because.Complete, b) ∷ (Because.Sizes, c) ∷ (Because.Part, d) ∷ (Because.NotLoose, e) ∷ (Because.Full, f) ∷ [])) ≡ false
 unreached true b c d e f h = refl
 unreached false true c d e f h = refl
 unreached false false true d e f h = refl
 unreached false false false d e f h = let z = h refl in rw (z .0, z .1, z .2)
 
-late-unless : (x : Option ℕ) (d : Desk) (t : ℕ) (d′ : Desk) → is-5-to-7 (unless x d (Answer.number t, d′) .0) ≡ late-no x
+late-unless : (x : Option Refusal) (d : Desk) (t : ℕ) (d′ : Desk) → is-barred (unless x d (Answer.number t, d′) .0) ≡ late-no x
 late-unless none d t d′ = refl
 late-unless (some n) d t d′ = refl
 
@@ -190,7 +192,7 @@ unreached-add s e named q h =
 -- an add that does not meet 5, 6 or 7 does not meet them there
 pub add-there : (s : Setup) (p : ℕ) (j : List ℕ) (d : Desk) (i : List ℕ) (e : Desk) (named named′ : Option ℕ) (q : Request) → Rel s p j d i e
     → (add-refusal s d named q ≡ none → (not-loose e named′ ≡ false) × (no-room e named′ ≡ false))
-    → is-5-to-7 (step s d (Call.add named q) .0) ≡ false → is-5-to-7 (step s e (Call.add named′ q) .0) ≡ false
+    → is-barred (step s d (Call.add named q) .0) ≡ false → is-barred (step s e (Call.add named′ q) .0) ≡ false
 unfolding step
 add-there s p j d i e named named′ q r k h =
     late-unless (add-refusal s e named′ q) e (toi-for e named′) (admitted s (toi-for e named′) q (if given named′ then e else reserved s e))

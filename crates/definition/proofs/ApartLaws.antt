@@ -8,7 +8,9 @@ use native.Mathlib.Omega.{arith}
 use lib.Dec.{eqb}
 use borrow.Author.Tests.{eqb-true, eqb-false, eq-eqb, ne-eqb, not-false, not-true}
 use lib.ListN.{length, set}
-use Rattle.sizes.specs.Words.{if_then_else_, maybe, given, any, at, has, find, first-of, within, over, Each, times, one-if}
+use Rattle.sizes.specs.Words.{if_then_else_, maybe, given, any, at, has, find, first-of, over, Each, times, one-if}
+use Rattle.sizes.specs.declared.refusal.Refusal.{Refusal}
+use Rattle.sizes.specs.declared.refusal.Refusal.the-variants as Because
 use Rattle.lifecycle.specs.declared.parts.Part.{Part}
 use Rattle.definition.specs.Encoder.{Encoder, Symbol, fresh, read}
 use Rattle.lifecycle.specs.Lifecycle.{triggered}
@@ -16,8 +18,8 @@ use Rattle.lifecycle.specs.Setup.{Setup, bad-blocks}
 use Rattle.lifecycle.specs.Fdt.{Instance, next-fdt, fdt-done}
 use Rattle.definition.specs.FdtSession.{Fdt, FdtTurn, FdtHand, Packet, fdt-published, fdt-send, fdt-attempt, fdt-idle, fdt-run}
 use Rattle.definition.specs.Session.{Object, Hand, Session, living, Turn, file-run}
-use Rattle.definition.specs.Desk.{Desk, Request, Call, Answer, opening, in-hands, objects, numbers, is, listed-in-hands, listed-as, moved, numbered, with-fdt, in-hand, marked, marked-hand, all-published, unlisted, removed, prompted, reserved, toi-for, made, admitted, own-sizes, no-session, bad-object-part, not-loose, full, no-room, add-refusal, publish-refusal, draft-refusal, draft-of, Result, unless, ran, step, unloosed, fdt-queued, fdt-ran}
-use Rattle.definition.specs.Apart.{mine, owns, about, noted, key, call-by, packet-by, perhaps-by, answer-by, is-5-to-7, turned-away, calls, answers, smooth, Alike as AlikeRuns, PacketNamed, Named}
+use Rattle.definition.specs.Desk.{Desk, Request, Call, Answer, opening, in-hands, objects, numbers, is, listed-in-hands, listed-as, moved, numbered, with-fdt, in-hand, marked, marked-hand, all-published, unlisted, removed, prompted, reserved, toi-for, made, admitted, own-sizes, no-session, bad-object-part, not-loose, full, no-room, reserve-refusal, release-refusal, add-refusal, publish-refusal, draft-refusal, draft-of, Result, unless, ran, step, unloosed, fdt-queued, fdt-ran}
+use Rattle.definition.specs.Apart.{mine, owns, about, noted, key, call-by, packet-by, perhaps-by, answer-by, bars, is-barred, turned-away, calls, answers, smooth, Alike as AlikeRuns, PacketNamed, Named}
 use Rattle.definition.proofs.Numbers.{Unique, unique-step, unique-opening, tois, admissible}
 use Rattle.definition.proofs.View.{retag, retag-held, seen, see, seen-append, seen-mine, seen-other, Alike, seen-find, seen-map, seen-keep, seen-kept, seen-unmoved, see-turn, Sends, file-run-seen}
 use Rattle.definition.proofs.Known.{Noted, HeldFits, Fits, PacketNoted, Known, file-run-known, file-run-other, known-step, known-opening}
@@ -63,8 +65,8 @@ view p j d = record {
 }
 
 -- why an add is refused on a desk that has only the priority's calls
-unfoldable pub early-refusal : Setup → Desk → Request → Option ℕ
-early-refusal s d q = first-of ((2, no-session d (q .priority)) ∷ (3, d .complete) ∷ (4, bad-blocks (own-sizes s q) (q .part .size)) ∷ [])
+unfoldable pub early-refusal : Setup → Desk → Request → Option Refusal
+early-refusal s d q = first-of ((Because.NoPriority, no-session d (q .priority)) ∷ (Because.Complete, d .complete) ∷ (Because.Sizes, bad-blocks (own-sizes s q) (q .part .size)) ∷ [])
 
 -- the desk with one more object, under the next key
 abbrev pub one-more : Setup → Request → Desk → Desk
@@ -478,15 +480,15 @@ any-see p r f (x ∷ l) = ap (λ b. eqb (x .priority) r || b) (any-see p r f l)
 
 pub early-seen : (p : ℕ) (j : List ℕ) (s : Setup) (d : Desk) (q : Request) → early-refusal s (view p j d) q ≡ early-refusal s d q
 unfolding early-refusal no-session
-early-seen p j s d q = ap (λ b. first-of ((2, not b) ∷ (3, d .complete) ∷ (4, bad-blocks (own-sizes s q) (q .part .size)) ∷ [])) (any-see p (q .priority) (key j) (d .sessions))
+early-seen p j s d q = ap (λ b. first-of ((Because.NoPriority, not b) ∷ (Because.Complete, d .complete) ∷ (Because.Sizes, bad-blocks (own-sizes s q) (q .part .size)) ∷ [])) (any-see p (q .priority) (key j) (d .sessions))
 
 -- an add that does not meet 5, 6 or 7 is refused for 2, 3, 4 or not at all
-abbrev pub late-no : Option ℕ → Bool
+abbrev pub late-no : Option Refusal → Bool
 late-no none = false
-late-no (some n) = within 5 7 n
+late-no (some why) = bars why
 
-six-early : (a b c d e f : Bool) → late-no (first-of ((2, a) ∷ (3, b) ∷ (4, c) ∷ (5, d) ∷ (6, e) ∷ (7, f) ∷ [])) ≡ false
-    → first-of ((2, a) ∷ (3, b) ∷ (4, c) ∷ (5, d) ∷ (6, e) ∷ (7, f) ∷ []) ≡ first-of ((2, a) ∷ (3, b) ∷ (4, c) ∷ [])
+six-early : (a b c d e f : Bool) → late-no (first-of ((Because.NoPriority, a) ∷ (Because.Complete, b) ∷ (Because.Sizes, c) ∷ (Because.Part, d) ∷ (Because.NotLoose, e) ∷ (Because.Full, f) ∷ [])) ≡ false
+    → first-of ((Because.NoPriority, a) ∷ (Because.Complete, b) ∷ (Because.Sizes, c) ∷ (Because.Part, d) ∷ (Because.NotLoose, e) ∷ (Because.Full, f) ∷ []) ≡ first-of ((Because.NoPriority, a) ∷ (Because.Complete, b) ∷ (Because.Sizes, c) ∷ [])
 six-early true b c d e f h = refl
 six-early false true c d e f h = refl
 six-early false false true d e f h = refl
@@ -504,7 +506,7 @@ abbrev pub add-result : Setup → Desk → Option ℕ → Request → Result
 add-result s d named q = (Answer.number (toi-for d named), admitted s (toi-for d named) q (if given named then d else reserved s d))
 
 -- an add of the priority
-add-shown : (p : ℕ) (j : List ℕ) (s : Setup) (d : Desk) (named : Option ℕ) (q : Request) → Unique s d → eqb (q .priority) p ≡ true → is-5-to-7 (step s d (Call.add named q) .0) ≡ false
+add-shown : (p : ℕ) (j : List ℕ) (s : Setup) (d : Desk) (named : Option ℕ) (q : Request) → Unique s d → eqb (q .priority) p ≡ true → is-barred (step s d (Call.add named q) .0) ≡ false
     → own-step s (view p j d) (Call.add none q) ≡ (
       answer-by (key (noted p (Call.add named q) (step s d (Call.add named q) .0) j)) (step s d (Call.add named q) .0),
       view p (noted p (Call.add named q) (step s d (Call.add named q) .0) j) (step s d (Call.add named q) .1),
@@ -518,7 +520,7 @@ add-shown p j s d named q u e h = go (add-refusal s d named q) refl h
     d′ : Desk
     d′ = if given named then d else reserved s d
 
-    go : (x : Option ℕ) → add-refusal s d named q ≡ x → is-5-to-7 (unless x d (add-result s d named q) .0) ≡ false
+    go : (x : Option Refusal) → add-refusal s d named q ≡ x → is-barred (unless x d (add-result s d named q) .0) ≡ false
         → unless (early-refusal s (view p j d) q) (view p j d) (Answer.number (suc (length j)), one-more s q (view p j d))
         ≡ (answer-by (key (noted p (Call.add named q) (unless x d (add-result s d named q) .0) j)) (unless x d (add-result s d named q) .0), view p (noted p (Call.add named q) (unless x d (add-result s d named q) .0) j) (unless x d (add-result s d named q) .1))
     go none r l = rw (early-seen p j s d q ∙ sym (add-early s d named q (ap late-no r)) ∙ r) (rw e (
@@ -652,19 +654,19 @@ fdt-run-packet s now draft f = fdt-attempt-packet s now (fdt-attempt s now draft
 -- a call that is not the priority's does not show
 pub hidden : (p : ℕ) (j : List ℕ) (s : Setup) (d : Desk) (c : Call) → Known p j d → about p d c ≡ false → view p (noted p c (step s d c .0) j) (step s d c .1) ≡ view p j d
 unfolding step about numbered moved
-hidden p j s d Call.reserve k e = go (first-of ((7, full d) ∷ []))
+hidden p j s d Call.reserve k e = go (reserve-refusal d)
   where
-    go : (x : Option ℕ) → view p j (unless x d (Answer.number (d .next), reserved s d) .1) ≡ view p j d
+    go : (x : Option Refusal) → view p j (unless x d (Answer.number (d .next), reserved s d) .1) ≡ view p j d
     go none = reserved-hidden p j s d
     go (some n) = refl
-hidden p j s d (Call.release t) k e = go (first-of ((6, not-loose d (some t)) ∷ []))
+hidden p j s d (Call.release t) k e = go (release-refusal d t)
   where
-    go : (x : Option ℕ) → view p j (unless x d (Answer.done, numbered d (d .next) (unloosed t (d .loose))) .1) ≡ view p j d
+    go : (x : Option Refusal) → view p j (unless x d (Answer.done, numbered d (d .next) (unloosed t (d .loose))) .1) ≡ view p j d
     go none = refl
     go (some n) = refl
 hidden p j s d (Call.add named q) k e = go (add-refusal s d named q)
   where
-    go : (x : Option ℕ) → view p (noted p (Call.add named q) (unless x d (add-result s d named q) .0) j) (unless x d (add-result s d named q) .1) ≡ view p j d
+    go : (x : Option Refusal) → view p (noted p (Call.add named q) (unless x d (add-result s d named q) .0) j) (unless x d (add-result s d named q) .1) ≡ view p j d
     go none = rw e (admitted-hidden p j s (toi-for d named) q (if given named then d else reserved s d) e ∙ maybe-reserved-hidden p j s d named)
     go (some n) = refl
 hidden p j s d (Call.remove t) k e = removed-hidden p j d t k e
@@ -683,7 +685,7 @@ hidden p j s d (Call.publish now c) k e = absurd (true≢false e)
 hidden p j s d (Call.run-fdt now draft) k e = absurd (true≢false e)
 hidden p j s d (Call.run-file now i) k e = go (at (d .sessions) i) refl e
   where
-    go : (x : Option Session) → at (d .sessions) i ≡ x → maybe false (λ (x : Session). eqb (x .priority) p) x ≡ false → view p j (maybe (Answer.refused 8, d) (ran s now i d) x .1) ≡ view p j d
+    go : (x : Option Session) → at (d .sessions) i ≡ x → maybe false (λ (x : Session). eqb (x .priority) p) x ≡ false → view p j (maybe (Answer.refused Because.NoSession, d) (ran s now i d) x .1) ≡ view p j d
     go none a e = refl
     go (some x) a e = ran-hidden p j s now i d x a k e
 
@@ -711,13 +713,13 @@ shown p j s d (Call.transfers t) u k e h = λ i. (Answer.transferred (total-seen
 shown p j s d Call.complete u k e h = refl
 shown p j s d (Call.publish now c) u k e h = go (publish-refusal s (d .fdt) c)
   where
-    go : (x : Option ℕ) → unless x (view p j d) (Answer.done, all-published (with-fdt (view p j d) (fdt-published now c (d .fdt))))
+    go : (x : Option Refusal) → unless x (view p j d) (Answer.done, all-published (with-fdt (view p j d) (fdt-published now c (d .fdt))))
         ≡ (answer-by (key j) (unless x d (Answer.done, all-published (with-fdt d (fdt-published now c (d .fdt)))) .0), view p j (unless x d (Answer.done, all-published (with-fdt d (fdt-published now c (d .fdt)))) .1))
     go none = λ i. (Answer.done, published-seen p j (with-fdt d (fdt-published now c (d .fdt))) (record { waiting = k .waiting; serving = k .serving }) i)
     go (some n) = refl
 shown p j s d (Call.run-fdt now draft) u k e h = go (draft-refusal s (d .fdt) draft) (fdt-run s now (draft-of draft) (d .fdt)) (fdt-run-packet s now (draft-of draft) (d .fdt))
   where
-    go : (x : Option ℕ) (r : FdtTurn) → FdtPacket (r .packet)
+    go : (x : Option Refusal) (r : FdtTurn) → FdtPacket (r .packet)
         → unless x (view p j d) (Answer.fdt-output (r .taken) (r .packet), if r .taken then all-published (with-fdt (view p j d) (r .fdt)) else with-fdt (view p j d) (r .fdt))
         ≡ (
           answer-by (key j) (unless x d (Answer.fdt-output (r .taken) (r .packet), if r .taken then all-published (with-fdt d (r .fdt)) else with-fdt d (r .fdt)) .0),
@@ -728,8 +730,8 @@ shown p j s d (Call.run-fdt now draft) u k e h = go (draft-refusal s (d .fdt) dr
 shown p j s d (Call.run-file now i) u k e h = rw (at-map (see p (key j)) (d .sessions) i) (go (at (d .sessions) i) refl e)
   where
     go : (x : Option Session) → at (d .sessions) i ≡ x → maybe false (λ (x : Session). eqb (x .priority) p) x ≡ true
-        → maybe (Answer.refused 8, view p j d) (ran s now i (view p j d)) (over (see p (key j)) x)
-        ≡ (answer-by (key j) (maybe (Answer.refused 8, d) (ran s now i d) x .0), view p j (maybe (Answer.refused 8, d) (ran s now i d) x .1))
+        → maybe (Answer.refused Because.NoSession, view p j d) (ran s now i (view p j d)) (over (see p (key j)) x)
+        ≡ (answer-by (key j) (maybe (Answer.refused Because.NoSession, d) (ran s now i d) x .0), view p j (maybe (Answer.refused Because.NoSession, d) (ran s now i d) x .1))
     go none a e = absurd (false≢true e)
     go (some x) a e = ran-shown p j s now i d x a k e
 
@@ -777,7 +779,7 @@ named-step p j s d Call.reserve k e = absurd (false≢true e)
 named-step p j s d (Call.release t) k e = absurd (false≢true e)
 named-step p j s d (Call.add named q) k e = go (add-refusal s d named q)
   where
-    go : (x : Option ℕ) → Named (answer-by (key (noted p (Call.add named q) (unless x d (add-result s d named q) .0) j)) (unless x d (add-result s d named q) .0))
+    go : (x : Option Refusal) → Named (answer-by (key (noted p (Call.add named q) (unless x d (add-result s d named q) .0) j)) (unless x d (add-result s d named q) .0))
     go none = tt
     go (some n) = tt
 named-step p j s d (Call.remove t) k e = tt
@@ -787,7 +789,7 @@ named-step p j s d (Call.transfers t) k e = tt
 named-step p j s d Call.complete k e = tt
 named-step p j s d (Call.publish now c) k e = go (publish-refusal s (d .fdt) c)
   where
-    go : (x : Option ℕ) → Named (answer-by (key j) (unless x d (Answer.done, all-published (with-fdt d (fdt-published now c (d .fdt)))) .0))
+    go : (x : Option Refusal) → Named (answer-by (key j) (unless x d (Answer.done, all-published (with-fdt d (fdt-published now c (d .fdt)))) .0))
     go none = tt
     go (some n) = tt
 named-step p j s d (Call.run-fdt now draft) k e = go (draft-refusal s (d .fdt) draft)
@@ -795,12 +797,12 @@ named-step p j s d (Call.run-fdt now draft) k e = go (draft-refusal s (d .fdt) d
     r : FdtTurn
     r = fdt-run s now (draft-of draft) (d .fdt)
 
-    go : (x : Option ℕ) → Named (answer-by (key j) (unless x d (Answer.fdt-output (r .taken) (r .packet), if r .taken then all-published (with-fdt d (r .fdt)) else with-fdt d (r .fdt)) .0))
+    go : (x : Option Refusal) → Named (answer-by (key j) (unless x d (Answer.fdt-output (r .taken) (r .packet), if r .taken then all-published (with-fdt d (r .fdt)) else with-fdt d (r .fdt)) .0))
     go none = fdt-named (key j) (r .packet) (fdt-run-packet s now (draft-of draft) (d .fdt))
     go (some n) = tt
 named-step p j s d (Call.run-file now i) k e = go (at (d .sessions) i) refl e
   where
-    go : (x : Option Session) → at (d .sessions) i ≡ x → maybe false (λ (x : Session). eqb (x .priority) p) x ≡ true → Named (answer-by (key j) (maybe (Answer.refused 8, d) (ran s now i d) x .0))
+    go : (x : Option Session) → at (d .sessions) i ≡ x → maybe false (λ (x : Session). eqb (x .priority) p) x ≡ true → Named (answer-by (key j) (maybe (Answer.refused Because.NoSession, d) (ran s now i d) x .0))
     go none a e = tt
     go (some x) a e = packet-named p j (x .priority) (file-run s (x .priority) now (fdt-queued d) (d .queue) (x .hand) .packet) e
         (file-run-known p j (x .priority) s now (fdt-queued d) (d .queue) (x .hand) (k .waiting) (each-at (Fits p j) (d .sessions) i x a (k .serving)) .2)

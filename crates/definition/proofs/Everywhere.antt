@@ -8,6 +8,8 @@ use lib.Dec.{eqb, ltb}
 use borrow.Author.Tests.{ltb-false, not-false}
 use lib.ListN.{length}
 use Rattle.sizes.specs.Words.{if_then_else_, maybe, given, keep, at, find, drop-first, first-of}
+use Rattle.sizes.specs.declared.refusal.Refusal.the-variants as Because
+use Rattle.sizes.specs.declared.refusal.Refusal.{Refusal}
 use Rattle.sizes.specs.Limits.{most-blocks}
 use Rattle.sizes.specs.Partition.{blocks-of}
 use Rattle.sizes.specs.declared.partition.Sizes.{Sizes}
@@ -17,7 +19,7 @@ use Rattle.lifecycle.specs.Lifecycle.{Life, announced, triggered, too-early, ex
 use Rattle.lifecycle.specs.Setup.{Setup, sound-sizes, bad-blocks}
 use Rattle.definition.specs.FdtSession.{Fdt, FdtTurn, fdt-published, fdt-run}
 use Rattle.definition.specs.Session.{Object, Hand, Session, living, startable, begin, put-back, forced, Turn, idle, sent, serve, go-on, take-on, file-run}
-use Rattle.definition.specs.Desk.{Desk, Request, Call, Answer, opening, in-hands, objects, is, moved, numbered, with-fdt, in-hand, marked, marked-hand, all-published, unlisted, removed, prompted, reserved, toi-for, own-sizes, made, admitted, not-loose, full, add-refusal, publish-refusal, draft-refusal, draft-of, unless, ran, step, run, unloosed, fdt-queued, fdt-ran}
+use Rattle.definition.specs.Desk.{Desk, Request, Call, Answer, opening, in-hands, objects, is, moved, numbered, with-fdt, in-hand, marked, marked-hand, all-published, unlisted, removed, prompted, reserved, toi-for, own-sizes, made, admitted, not-loose, full, reserve-refusal, release-refusal, add-refusal, publish-refusal, draft-refusal, draft-of, unless, ran, step, run, unloosed, fdt-queued, fdt-ran}
 use Rattle.sizes.specs.Words.{Each}
 use Rattle.sizes.proofs.Tests.{or-left, or-right}
 use Rattle.sizes.proofs.Lists.{each-append, each-keep, each-drop-first, each-map, each-set, each-find, each-at, each-left, each-right}
@@ -124,19 +126,19 @@ module _ (P : Object → Type 0) (stable : (x : Life) (o : Object) → P o → P
       → ((named : Option ℕ) (q : Request) → c ≡ Call.add named q → add-refusal s d named q ≡ none → P (made s (toi-for d named) q))
       → Everywhere P d → Everywhere P (step s d c .1)
   unfolding step numbered moved removed ran unloosed fdt-ran fdt-queued
-  everywhere-step s d Call.reserve k u = go (first-of ((7, full d) ∷ []))
+  everywhere-step s d Call.reserve k u = go (reserve-refusal d)
     where
-      go : (x : Option ℕ) → Everywhere P (unless x d (Answer.number (d .next), reserved s d) .1)
+      go : (x : Option Refusal) → Everywhere P (unless x d (Answer.number (d .next), reserved s d) .1)
       go none = reserved-all s d u
       go (some n) = u
-  everywhere-step s d (Call.release t) k u = go (first-of ((6, not-loose d (some t)) ∷ []))
+  everywhere-step s d (Call.release t) k u = go (release-refusal d t)
     where
-      go : (x : Option ℕ) → Everywhere P (unless x d (Answer.done, numbered d (d .next) (keep (λ v. not (eqb v t)) (d .loose))) .1)
+      go : (x : Option Refusal) → Everywhere P (unless x d (Answer.done, numbered d (d .next) (keep (λ v. not (eqb v t)) (d .loose))) .1)
       go none = record { waiting = u .waiting; serving = u .serving }
       go (some n) = u
   everywhere-step s d (Call.add named q) k u = go (add-refusal s d named q) refl
     where
-      go : (x : Option ℕ) → add-refusal s d named q ≡ x → Everywhere P (unless x d (Answer.number (toi-for d named), admitted s (toi-for d named) q (if given named then d else reserved s d)) .1)
+      go : (x : Option Refusal) → add-refusal s d named q ≡ x → Everywhere P (unless x d (Answer.number (toi-for d named), admitted s (toi-for d named) q (if given named then d else reserved s d)) .1)
       go none e = admitted-all s (toi-for d named) q (if given named then d else reserved s d) (k named q refl e) (maybe-all s d named u)
       go (some n) e = u
   everywhere-step s d (Call.remove t) k u = record {
@@ -149,18 +151,18 @@ module _ (P : Object → Type 0) (stable : (x : Life) (o : Object) → P o → P
   everywhere-step s d Call.complete k u = record { waiting = u .waiting; serving = u .serving }
   everywhere-step s d (Call.publish now c) k u = go (publish-refusal s (d .fdt) c)
     where
-      go : (x : Option ℕ) → Everywhere P (unless x d (Answer.done, all-published (with-fdt d (fdt-published now c (d .fdt)))) .1)
+      go : (x : Option Refusal) → Everywhere P (unless x d (Answer.done, all-published (with-fdt d (fdt-published now c (d .fdt)))) .1)
       go none = marked-all (with-fdt d (fdt-published now c (d .fdt))) (fdt-all d (fdt-published now c (d .fdt)) u)
       go (some n) = u
   everywhere-step s d (Call.run-fdt now draft) k u = go (draft-refusal s (d .fdt) draft) (fdt-run s now (draft-of draft) (d .fdt))
     where
-      go : (x : Option ℕ) (r : FdtTurn) → Everywhere P (unless x d (Answer.fdt-output (r .taken) (r .packet), if r .taken then all-published (with-fdt d (r .fdt)) else with-fdt d (r .fdt)) .1)
+      go : (x : Option Refusal) (r : FdtTurn) → Everywhere P (unless x d (Answer.fdt-output (r .taken) (r .packet), if r .taken then all-published (with-fdt d (r .fdt)) else with-fdt d (r .fdt)) .1)
       go none r = elim (r .taken) as (λ t. Everywhere P (if t then all-published (with-fdt d (r .fdt)) else with-fdt d (r .fdt)))
           [ true ↦ marked-all (with-fdt d (r .fdt)) (fdt-all d (r .fdt) u) | false ↦ fdt-all d (r .fdt) u ]
       go (some n) r = u
   everywhere-step s d (Call.run-file now i) k u = go (at (d .sessions) i) refl
     where
-      go : (x : Option Session) → at (d .sessions) i ≡ x → Everywhere P (maybe (Answer.refused 8, d) (ran s now i d) x .1)
+      go : (x : Option Session) → at (d .sessions) i ≡ x → Everywhere P (maybe (Answer.refused Because.NoSession, d) (ran s now i d) x .1)
       go none e = u
       go (some x) e =
           let z = file-run-all s (x .priority) now (not (eqb (length (d .fdt .state .waiting)) 0)) (d .queue) (x .hand) (u .waiting) (each-at (λ (x : Session). InHand P (x .hand)) (d .sessions) i x e (u .serving)) in

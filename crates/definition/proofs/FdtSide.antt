@@ -9,6 +9,7 @@ use lib.Dec.{eqb, ltb, leb}
 use borrow.Author.Tests.{leb-false, ltb-false, le-ltb, eqb-false, ne-eqb}
 use lib.ListN.{length, length-append}
 use Rattle.sizes.specs.Words.{if_then_else_, maybe, given, collect, any, at, first-of, one-if, Each}
+use Rattle.sizes.specs.declared.refusal.Refusal.the-variants as Because
 use Rattle.sizes.specs.Limits.{waiting-fdts}
 use Rattle.sizes.proofs.Tests.{or-left, or-right, Tested, pass, fail, tested}
 use Rattle.sizes.proofs.Lists.{each-append, first-none}
@@ -20,7 +21,7 @@ use Rattle.lifecycle.specs.Fdt.{Instance, FdtState, Next, fdt-plan, fdt-parts, 
 use Rattle.definition.specs.Encoder.{Symbol, fresh, read}
 use Rattle.definition.specs.FdtSession.{Fdt, FdtHand, FdtTurn, fdt-published, fdt-send, fdt-attempt, fdt-idle, fdt-run}
 use Rattle.definition.specs.Session.{Session}
-use Rattle.definition.specs.Desk.{Desk, Call, Answer, opening, moved, numbered, with-fdt, all-published, removed, reserved, admitted, not-loose, full, add-refusal, publish-refusal, draft-refusal, draft-of, ran, fdt-ran, step}
+use Rattle.definition.specs.Desk.{Desk, Call, Answer, opening, moved, numbered, with-fdt, all-published, removed, reserved, admitted, not-loose, full, reserve-refusal, release-refusal, add-refusal, publish-refusal, draft-refusal, draft-of, ran, fdt-ran, step}
 use Rattle.definition.specs.TotalPromises.{IfGiven, FdtPart, Matched, nothing, resting, sending, FdtReachable}
 use Rattle.definition.proofs.Refused.{either, kept}
 use Rattle.definition.proofs.Weights.{total, total-append}
@@ -347,9 +348,9 @@ unfolding publish-refusal fdt-published
 published-kept s now c f e u =
     let five = bad-fdt-part s (f .state) c in
     let seven = leb waiting-fdts (length (f .state .waiting)) in
-    let r4 = first-none 4 (bad-blocks (s .sizes) (c .size)) ((5, five || eqb (c .size) 0) ∷ (7, seven) ∷ []) e in
-    let r5 = first-none 5 (five || eqb (c .size) 0) ((7, seven) ∷ []) (r4 .1) in
-    let r7 = leb-false waiting-fdts (length (f .state .waiting)) (first-none 7 seven [] (r5 .1) .0) in
+    let r4 = first-none Because.Sizes (bad-blocks (s .sizes) (c .size)) ((Because.Part, five || eqb (c .size) 0) ∷ (Because.Full, seven) ∷ []) e in
+    let r5 = first-none Because.Part (five || eqb (c .size) 0) ((Because.Full, seven) ∷ []) (r4 .1) in
+    let r7 = leb-false waiting-fdts (length (f .state .waiting)) (first-none Because.Full seven [] (r5 .1) .0) in
     let k = fits-told s f c (r4 .0) (or-left five (eqb (c .size) 0) (r5 .0)) (or-right five (eqb (c .size) 0) (r5 .0)) in
     record {
       few = (let h = queued-length now c (f .state) in omega arith);
@@ -364,10 +365,10 @@ draft-fits : (s : Setup) (f : Fdt) (draft : Option Part) → draft-refusal s f d
 unfolding draft-refusal draft-of
 draft-fits s f none e = tt
 draft-fits s f (some c) e = (elim (eqb (c .size) 0)
-    as (λ t. eqb (c .size) 0 ≡ t → maybe none (λ c. first-of ((4, bad-blocks (s .sizes) (c .size)) ∷ (5, bad-fdt-part s (f .state) c) ∷ [])) (if t then none else some c) ≡ none → IfGiven (Fits s f) (if t then none else some c)) [
+    as (λ t. eqb (c .size) 0 ≡ t → maybe none (λ c. first-of ((Because.Sizes, bad-blocks (s .sizes) (c .size)) ∷ (Because.Part, bad-fdt-part s (f .state) c) ∷ [])) (if t then none else some c) ≡ none → IfGiven (Fits s f) (if t then none else some c)) [
       | true ↦ λ z e. tt
-      | false ↦ λ z e. (let r = first-none 4 (bad-blocks (s .sizes) (c .size)) ((5, bad-fdt-part s (f .state) c) ∷ []) e in
-          fits-told s f c (r .0) (first-none 5 (bad-fdt-part s (f .state) c) [] (r .1) .0) z)
+      | false ↦ λ z e. (let r = first-none Because.Sizes (bad-blocks (s .sizes) (c .size)) ((Because.Part, bad-fdt-part s (f .state) c) ∷ []) e in
+          fits-told s f c (r .0) (first-none Because.Part (bad-fdt-part s (f .state) c) [] (r .1) .0) z)
     ]) refl e
 
 ran-kept : (s : Setup) (now : ℕ) (draft : Option Part) (f : Fdt) → IfGiven (Fits s f) draft → FdtReachable s f → FdtReachable s (fdt-run s now draft f .fdt)
@@ -399,8 +400,8 @@ ran-kept s now draft f k u = record {
 
 pub fdt-step : (s : Setup) (d : Desk) (c : Call) → FdtReachable s (d .fdt) → FdtReachable s (step s d c .1 .fdt)
 unfolding step reserved numbered moved removed admitted all-published with-fdt ran fdt-ran
-fdt-step s d Call.reserve u = kept (λ e. FdtReachable s (e .fdt)) (first-of ((7, full d) ∷ [])) d _ u (λ e. u)
-fdt-step s d (Call.release t) u = kept (λ e. FdtReachable s (e .fdt)) (first-of ((6, not-loose d (some t)) ∷ [])) d _ u (λ e. u)
+fdt-step s d Call.reserve u = kept (λ e. FdtReachable s (e .fdt)) (reserve-refusal d) d _ u (λ e. u)
+fdt-step s d (Call.release t) u = kept (λ e. FdtReachable s (e .fdt)) (release-refusal d t) d _ u (λ e. u)
 fdt-step s d (Call.add named q) u = kept (λ e. FdtReachable s (e .fdt)) (add-refusal s d named q) d _ u
     (λ e. either (λ (x : Desk). FdtReachable s (x .fdt)) (given named) d (reserved s d) u u)
 fdt-step s d (Call.remove t) u = u
@@ -415,7 +416,7 @@ fdt-step s d (Call.run-fdt now draft) u = kept (λ e. FdtReachable s (e .fdt)) (
     either (λ (x : Desk). FdtReachable s (x .fdt)) (r .taken) (all-published (with-fdt d (r .fdt))) (with-fdt d (r .fdt)) v v)
 fdt-step s d (Call.run-file now i) u = go (at (d .sessions) i)
   where
-    go : (x : Option Session) → FdtReachable s (maybe (Answer.refused 8, d) (ran s now i d) x .1 .fdt)
+    go : (x : Option Session) → FdtReachable s (maybe (Answer.refused Because.NoSession, d) (ran s now i d) x .1 .fdt)
     go none = u
     go (some x) = u
 

@@ -9,6 +9,7 @@ use lib.Dec.{eqb}
 use borrow.Author.Tests.{eqb-true}
 use lib.ListN.{length, length-append, length-set}
 use Rattle.sizes.specs.Words.{if_then_else_, maybe, given, at, cut, find, drop-first, first-of, Each}
+use Rattle.sizes.specs.declared.refusal.Refusal.the-variants as Because
 use Rattle.sizes.specs.Partition.{blocks-of}
 use Rattle.sizes.specs.declared.partition.Sizes.{Sizes}
 use Rattle.sizes.specs.declared.partition.Partition.{Partition}
@@ -20,7 +21,7 @@ use Rattle.lifecycle.specs.Setup.{Setup}
 use Rattle.definition.specs.Encoder.{Open, Encoder, Symbol, opened, drained, fill, wrapped, emptied, without, advanced, symbol-of, visit, stopping, read}
 use Rattle.definition.specs.FdtSession.{fdt-published, fdt-run}
 use Rattle.definition.specs.Session.{Object, Hand, Session, startable, begin, put-back, forced, Turn, idle, sent, serve, go-on, take-on, file-run}
-use Rattle.definition.specs.Desk.{Desk, Call, Answer, opening, is, moved, numbered, with-fdt, in-hand, marked, marked-hand, all-published, unlisted, removed, reserved, admitted, not-loose, full, add-refusal, publish-refusal, draft-refusal, draft-of, ran, fdt-queued, fdt-ran, step}
+use Rattle.definition.specs.Desk.{Desk, Call, Answer, opening, is, moved, numbered, with-fdt, in-hand, marked, marked-hand, all-published, unlisted, removed, reserved, admitted, not-loose, full, reserve-refusal, release-refusal, add-refusal, publish-refusal, draft-refusal, draft-of, ran, fdt-queued, fdt-ran, step}
 use Rattle.definition.specs.TotalPromises.{IfGiven, InHands}
 use Rattle.definition.proofs.Refused.{either, kept}
 
@@ -147,8 +148,8 @@ stays s l u = record { hands = u; same = refl }
 
 served-step : (s : Setup) (d : Desk) (c : Call) → HandsKept s (d .sessions) → Served s (d .sessions) (step s d c .1 .sessions)
 unfolding step reserved numbered moved removed admitted with-fdt ran fdt-ran
-served-step s d Call.reserve u = kept (λ e. Served s (d .sessions) (e .sessions)) (first-of ((7, full d) ∷ [])) d _ (stays s (d .sessions) u) (λ e. stays s (d .sessions) u)
-served-step s d (Call.release t) u = kept (λ e. Served s (d .sessions) (e .sessions)) (first-of ((6, not-loose d (some t)) ∷ [])) d _ (stays s (d .sessions) u) (λ e. stays s (d .sessions) u)
+served-step s d Call.reserve u = kept (λ e. Served s (d .sessions) (e .sessions)) (reserve-refusal d) d _ (stays s (d .sessions) u) (λ e. stays s (d .sessions) u)
+served-step s d (Call.release t) u = kept (λ e. Served s (d .sessions) (e .sessions)) (release-refusal d t) d _ (stays s (d .sessions) u) (λ e. stays s (d .sessions) u)
 served-step s d (Call.add named q) u = kept (λ e. Served s (d .sessions) (e .sessions)) (add-refusal s d named q) d _ (stays s (d .sessions) u)
     (λ e. either (λ (x : Desk). Served s (d .sessions) (x .sessions)) (given named) d (reserved s d) (stays s (d .sessions) u) (stays s (d .sessions) u))
 served-step s d (Call.remove t) u = in-hand-served s (unlisted t) (unlisted-hand s t) (d .sessions) u
@@ -165,7 +166,7 @@ served-step s d (Call.run-fdt now draft) u =
     (published-served s (with-fdt d (r .fdt)) u) (stays s (d .sessions) u))
 served-step s d (Call.run-file now i) u = go (at (d .sessions) i) refl
   where
-    go : (x : Option Session) → at (d .sessions) i ≡ x → Served s (d .sessions) (maybe (Answer.refused 8, d) (ran s now i d) x .1 .sessions)
+    go : (x : Option Session) → at (d .sessions) i ≡ x → Served s (d .sessions) (maybe (Answer.refused Because.NoSession, d) (ran s now i d) x .1 .sessions)
     go none e = stays s (d .sessions) u
     go (some x) e =
         let P : Session → Type 0 = λ (y : Session). IfGiven (InHands s (y .priority)) (y .hand) in

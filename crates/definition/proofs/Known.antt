@@ -8,12 +8,14 @@ use lib.Dec.{eqb}
 use borrow.Author.Tests.{eqb-true, eq-eqb}
 use lib.ListN.{length}
 use Rattle.sizes.specs.Words.{if_then_else_, maybe, given, keep, at, has, find, drop-first, first-of}
+use Rattle.sizes.specs.declared.refusal.Refusal.the-variants as Because
+use Rattle.sizes.specs.declared.refusal.Refusal.{Refusal}
 use Rattle.definition.specs.Encoder.{Symbol, read}
 use Rattle.lifecycle.specs.Lifecycle.{triggered, too-early, expired, finished, may-start}
 use Rattle.lifecycle.specs.Setup.{Setup}
 use Rattle.definition.specs.FdtSession.{Fdt, FdtTurn, Packet, fdt-published, fdt-run}
 use Rattle.definition.specs.Session.{Object, Hand, Session, living, startable, begin, put-back, forced, Turn, idle, sent, serve, go-on, take-on, file-run}
-use Rattle.definition.specs.Desk.{Desk, Request, Call, Answer, opening, is, moved, numbered, with-fdt, in-hand, marked, marked-hand, all-published, unlisted, removed, prompted, reserved, toi-for, made, admitted, not-loose, full, add-refusal, publish-refusal, draft-refusal, draft-of, unless, ran, step, unloosed, fdt-queued, fdt-ran}
+use Rattle.definition.specs.Desk.{Desk, Request, Call, Answer, opening, is, moved, numbered, with-fdt, in-hand, marked, marked-hand, all-published, unlisted, removed, prompted, reserved, toi-for, made, admitted, not-loose, full, reserve-refusal, release-refusal, add-refusal, publish-refusal, draft-refusal, draft-of, unless, ran, step, unloosed, fdt-queued, fdt-ran}
 use Rattle.definition.specs.Apart.{mine, noted}
 use Rattle.definition.proofs.View.{retag, seen, seen-append, seen-other}
 use Rattle.sizes.specs.Words.{Each}
@@ -222,19 +224,19 @@ ran-known p j s now i d x e u =
 -- every call keeps it
 pub known-step : (p : ℕ) (j : List ℕ) (s : Setup) (d : Desk) (c : Call) → Known p j d → Known p (noted p c (step s d c .0) j) (step s d c .1)
 unfolding step numbered moved removed unloosed fdt-ran
-known-step p j s d Call.reserve u = go (first-of ((7, full d) ∷ []))
+known-step p j s d Call.reserve u = go (reserve-refusal d)
   where
-    go : (x : Option ℕ) → Known p j (unless x d (Answer.number (d .next), reserved s d) .1)
+    go : (x : Option Refusal) → Known p j (unless x d (Answer.number (d .next), reserved s d) .1)
     go none = reserved-known p j s d none u
     go (some n) = u
-known-step p j s d (Call.release t) u = go (first-of ((6, not-loose d (some t)) ∷ []))
+known-step p j s d (Call.release t) u = go (release-refusal d t)
   where
-    go : (x : Option ℕ) → Known p j (unless x d (Answer.done, numbered d (d .next) (keep (λ v. not (eqb v t)) (d .loose))) .1)
+    go : (x : Option Refusal) → Known p j (unless x d (Answer.done, numbered d (d .next) (keep (λ v. not (eqb v t)) (d .loose))) .1)
     go none = record { waiting = u .waiting; serving = u .serving }
     go (some n) = u
 known-step p j s d (Call.add named q) u = go (add-refusal s d named q)
   where
-    go : (x : Option ℕ) → Known p (noted p (Call.add named q) (unless x d (Answer.number (toi-for d named), admitted s (toi-for d named) q (if given named then d else reserved s d)) .0) j)
+    go : (x : Option Refusal) → Known p (noted p (Call.add named q) (unless x d (Answer.number (toi-for d named), admitted s (toi-for d named) q (if given named then d else reserved s d)) .0) j)
         (unless x d (Answer.number (toi-for d named), admitted s (toi-for d named) q (if given named then d else reserved s d)) .1)
     go none = add-known p j s (toi-for d named) q d named u
     go (some n) = u
@@ -248,18 +250,18 @@ known-step p j s d (Call.transfers t) u = u
 known-step p j s d Call.complete u = record { waiting = u .waiting; serving = u .serving }
 known-step p j s d (Call.publish now c) u = go (publish-refusal s (d .fdt) c)
   where
-    go : (x : Option ℕ) → Known p j (unless x d (Answer.done, all-published (with-fdt d (fdt-published now c (d .fdt)))) .1)
+    go : (x : Option Refusal) → Known p j (unless x d (Answer.done, all-published (with-fdt d (fdt-published now c (d .fdt)))) .1)
     go none = published-known p j (with-fdt d (fdt-published now c (d .fdt))) (with-fdt-known p j d (fdt-published now c (d .fdt)) u)
     go (some n) = u
 known-step p j s d (Call.run-fdt now draft) u = go (draft-refusal s (d .fdt) draft) (fdt-run s now (draft-of draft) (d .fdt))
   where
-    go : (x : Option ℕ) (r : FdtTurn) → Known p j (unless x d (Answer.fdt-output (r .taken) (r .packet), if r .taken then all-published (with-fdt d (r .fdt)) else with-fdt d (r .fdt)) .1)
+    go : (x : Option Refusal) (r : FdtTurn) → Known p j (unless x d (Answer.fdt-output (r .taken) (r .packet), if r .taken then all-published (with-fdt d (r .fdt)) else with-fdt d (r .fdt)) .1)
     go none r = elim (r .taken) as (λ t. Known p j (if t then all-published (with-fdt d (r .fdt)) else with-fdt d (r .fdt)))
         [ true ↦ published-known p j (with-fdt d (r .fdt)) (with-fdt-known p j d (r .fdt) u) | false ↦ with-fdt-known p j d (r .fdt) u ]
     go (some n) r = u
 known-step p j s d (Call.run-file now i) u = go (at (d .sessions) i) refl
   where
-    go : (x : Option Session) → at (d .sessions) i ≡ x → Known p j (maybe (Answer.refused 8, d) (ran s now i d) x .1)
+    go : (x : Option Session) → at (d .sessions) i ≡ x → Known p j (maybe (Answer.refused Because.NoSession, d) (ran s now i d) x .1)
     go none e = u
     go (some x) e = ran-known p j s now i d x e u
 

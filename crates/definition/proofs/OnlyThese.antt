@@ -9,11 +9,13 @@ use lib.Dec.{eqb, leb}
 use borrow.Author.Tests.{eqb-true, eqb-false, eq-eqb, ne-eqb, not-true, leb-false, lt-leb}
 use lib.ListN.{length, length-append}
 use Rattle.sizes.specs.Words.{if_then_else_, maybe, keep, at, has, first-of, Each, times, one-if}
+use Rattle.sizes.specs.declared.refusal.Refusal.the-variants as Because
+use Rattle.sizes.specs.declared.refusal.Refusal.{Refusal}
 use Rattle.lifecycle.specs.Setup.{Setup, sound}
 use Rattle.sizes.specs.Limits.{toi-entries, object-slots}
 use Rattle.definition.specs.FdtSession.{FdtTurn, fdt-published, fdt-run}
 use Rattle.definition.specs.Session.{Session}
-use Rattle.definition.specs.Desk.{Desk, Request, Call, Answer, opening, objects, numbers, moved, numbered, with-fdt, all-published, removed, reserved, toi-for, admitted, not-loose, full, no-room, add-refusal, publish-refusal, draft-refusal, draft-of, Result, unless, ran, step, unloosed, fdt-ran}
+use Rattle.definition.specs.Desk.{Desk, Request, Call, Answer, opening, objects, numbers, moved, numbered, with-fdt, all-published, removed, reserved, toi-for, admitted, not-loose, full, no-room, reserve-refusal, release-refusal, add-refusal, publish-refusal, draft-refusal, draft-of, Result, unless, ran, step, unloosed, fdt-ran}
 use Rattle.definition.specs.Apart.{owns, about, noted, key, call-by, answer-by, turned-away, calls, smooth, accepted, ends, adds, look, through, tie, claims, reserves, asks-loose, only, Alike, lone, Only, Demand-3}
 use Rattle.lifecycle.proofs.SetupLaws.{told}
 use Rattle.definition.proofs.Numbers.{Unique, unique-step, tois, times-without, admissible, loose-true}
@@ -186,11 +188,11 @@ quieted s p d (Call.publish now c) e = record { same-loose = go (publish-refusal
     r : Result
     r = (Answer.done, all-published (with-fdt d (fdt-published now c (d .fdt))))
 
-    go : (x : Option ℕ) → unless x d r .1 .loose ≡ d .loose
+    go : (x : Option Refusal) → unless x d r .1 .loose ≡ d .loose
     go none = refl
     go (some n) = refl
 
-    to : (x : Option ℕ) (a : Answer) (m : List (ℕ × ℕ)) → tie (unless x d r .0) a m ≡ m
+    to : (x : Option Refusal) (a : Answer) (m : List (ℕ × ℕ)) → tie (unless x d r .0) a m ≡ m
     to none a m = refl
     to (some n) a m = refl
 quieted s p d (Call.run-fdt now draft) e = record {
@@ -203,20 +205,20 @@ quieted s p d (Call.run-fdt now draft) e = record {
     result : FdtTurn → Result
     result r = (Answer.fdt-output (r .taken) (r .packet), if r .taken then all-published (with-fdt d (r .fdt)) else with-fdt d (r .fdt))
 
-    go : (x : Option ℕ) (r : FdtTurn) → unless x d (result r) .1 .loose ≡ d .loose
+    go : (x : Option Refusal) (r : FdtTurn) → unless x d (result r) .1 .loose ≡ d .loose
     go none r = elim (r .taken) as (λ b. (if b then all-published (with-fdt d (r .fdt)) else with-fdt d (r .fdt)) .loose ≡ d .loose) [ true ↦ refl | false ↦ refl ]
     go (some n) r = refl
 
-    to : (x : Option ℕ) (r : FdtTurn) (a : Answer) (m : List (ℕ × ℕ)) → tie (unless x d (result r) .0) a m ≡ m
+    to : (x : Option Refusal) (r : FdtTurn) (a : Answer) (m : List (ℕ × ℕ)) → tie (unless x d (result r) .0) a m ≡ m
     to none r a m = refl
     to (some n) r a m = refl
 quieted s p d (Call.run-file now i) e = record { same-loose = go (at (d .sessions) i); no-end = λ t. refl; no-tie = to (at (d .sessions) i); no-note = λ j. refl }
   where
-    go : (x : Option Session) → maybe (Answer.refused 8, d) (ran s now i d) x .1 .loose ≡ d .loose
+    go : (x : Option Session) → maybe (Answer.refused Because.NoSession, d) (ran s now i d) x .1 .loose ≡ d .loose
     go none = refl
     go (some x) = refl
 
-    to : (x : Option Session) (a : Answer) (m : List (ℕ × ℕ)) → tie (maybe (Answer.refused 8, d) (ran s now i d) x .0) a m ≡ m
+    to : (x : Option Session) (a : Answer) (m : List (ℕ × ℕ)) → tie (maybe (Answer.refused Because.NoSession, d) (ran s now i d) x .0) a m ≡ m
     to none a m = refl
     to (some x) a m = refl
 
@@ -263,7 +265,7 @@ reserved-loose : (s : Setup) (d : Desk) → reserved s d .loose ≡ d .loose ++ 
 unfolding reserved numbered
 reserved-loose s d = refl
 
-step-add : (s : Setup) (d : Desk) (named : Option ℕ) (q : Request) (x : Option ℕ) → add-refusal s d named q ≡ x → step s d (Call.add named q) ≡ unless x d (add-result s d named q)
+step-add : (s : Setup) (d : Desk) (named : Option ℕ) (q : Request) (x : Option Refusal) → add-refusal s d named q ≡ x → step s d (Call.add named q) ≡ unless x d (add-result s d named q)
 unfolding step
 step-add s d named q x e = ap (λ y. unless y d (add-result s d named q)) e
 
@@ -271,28 +273,28 @@ step-add s d named q x e = ap (λ y. unless y d (add-result s d named q)) e
 claimed-other : (s : Setup) (p : ℕ) (d : Desk) (c : Call) (l : List Call) → Unique s d → about p d c ≡ false → reserves s p d c l ≡ false
     → claimed s p (step s d c .1) l ≡ claimed s p d (c ∷ l)
 unfolding step about reserves claims numbered toi-for unloosed
-claimed-other s p d Call.reserve l u a h = go (first-of ((7, full d) ∷ [])) h
+claimed-other s p d Call.reserve l u a h = go (reserve-refusal d) h
   where
-    go : (x : Option ℕ) → (accepted (unless x d (Answer.number (d .next), reserved s d) .0) && claims s p (d .next) (unless x d (Answer.number (d .next), reserved s d) .1) l) ≡ false
+    go : (x : Option Refusal) → (accepted (unless x d (Answer.number (d .next), reserved s d) .0) && claims s p (d .next) (unless x d (Answer.number (d .next), reserved s d) .1) l) ≡ false
         → Then s p l (unless x d (Answer.number (d .next), reserved s d)) ≡ Before s p d Call.reserve l (unless x d (Answer.number (d .next), reserved s d))
     go none h = ap (keep (λ t. claims s p t (reserved s d) l)) (reserved-loose s d) ∙ keep-not-last (λ t. claims s p t (reserved s d) l) (d .loose) (d .next) h
     go (some n) h = refl
-claimed-other s p d (Call.release v) l u a h = go (first-of ((6, not-loose d (some v)) ∷ []))
+claimed-other s p d (Call.release v) l u a h = go (release-refusal d v)
   where
     r : Result
     r = (Answer.done, numbered d (d .next) (less v (d .loose)))
 
-    go : (x : Option ℕ) → Then s p l (unless x d r) ≡ Before s p d (Call.release v) l (unless x d r)
+    go : (x : Option Refusal) → Then s p l (unless x d r) ≡ Before s p d (Call.release v) l (unless x d r)
     go none = keep-ended (λ t. claims s p t (r .1) l) v (d .loose)
     go (some n) = refl
 claimed-other s p d (Call.add none q) l u a h = go (add-refusal s d none q)
   where
-    go : (x : Option ℕ) → Then s p l (unless x d (add-result s d none q)) ≡ Before s p d (Call.add none q) l (unless x d (add-result s d none q))
+    go : (x : Option Refusal) → Then s p l (unless x d (add-result s d none q)) ≡ Before s p d (Call.add none q) l (unless x d (add-result s d none q))
     go none = ap (keep (λ t. claims s p t (admitted s (d .next) q (reserved s d)) l)) (admitted-loose s d q u)
     go (some n) = refl
 claimed-other s p d (Call.add (some v) q) l u a h = go (add-refusal s d (some v) q)
   where
-    go : (x : Option ℕ) → Then s p l (unless x d (add-result s d (some v) q)) ≡ Before s p d (Call.add (some v) q) l (unless x d (add-result s d (some v) q))
+    go : (x : Option Refusal) → Then s p l (unless x d (add-result s d (some v) q)) ≡ Before s p d (Call.add (some v) q) l (unless x d (add-result s d (some v) q))
     go none = rw a (ap (keep (λ t. claims s p t (admitted s v q d) l)) (named-loose s d v q) ∙ keep-ended (λ t. claims s p t (admitted s v q d) l) v (d .loose))
     go (some n) = refl
 claimed-other s p d (Call.remove t) l u a h = claimed-quiet s p d (Call.remove t) l (quieted s p d (Call.remove t) refl)
@@ -515,7 +517,7 @@ module _ (s : Setup) (p : ℕ) (j : List ℕ) (d : Desk) (i : List ℕ) (e : Des
   abbrev AfterRel : Call → Call → Result → Result → Type 0
   AfterRel c c′ r r′ = Rel s p (noted p c (r .0) j) (r .1) (noted p c′ (r′ .0) i) (r′ .1)
 
-  after-add : (named : Option ℕ) (x y : Option ℕ) → add-refusal s d named q ≡ x
+  after-add : (named : Option ℕ) (x y : Option Refusal) → add-refusal s d named q ≡ x
       → accepted (unless x d (add-result s d named q) .0) ≡ accepted (unless y e (add-result s e (maybe none (λ t. some (look m t)) named) q) .0)
       → RelO s p j d i e m (Before s p d (Call.add named q) l (unless x d (add-result s d named q)))
       → AfterRel (Call.add named q) (Call.add (maybe none (λ t. some (look m t)) named) q) (unless x d (add-result s d named q)) (unless y e (add-result s e (maybe none (λ t. some (look m t)) named) q))
@@ -564,7 +566,7 @@ module _ (s : Setup) (p : ℕ) (w : 16 ≤ s .width) where
   }
 
   -- a reservation of the priority, made here and there
-  reserve-both : (j : List ℕ) (d : Desk) (i : List ℕ) (e : Desk) (m : List (ℕ × ℕ)) (l : List Call) (x y : Option ℕ)
+  reserve-both : (j : List ℕ) (d : Desk) (i : List ℕ) (e : Desk) (m : List (ℕ × ℕ)) (l : List Call) (x y : Option Refusal)
       → (accepted (unless x d (Answer.number (d .next), reserved s d) .0) && claims s p (d .next) (unless x d (Answer.number (d .next), reserved s d) .1) l) ≡ true
       → y ≡ none
       → RelO s p j d i e m (Before s p d Call.reserve l (unless x d (Answer.number (d .next), reserved s d)))
@@ -593,7 +595,7 @@ module _ (s : Setup) (p : ℕ) (w : 16 ≤ s .width) where
       not-old : has (d .next) old ≡ false
       not-old = kept-has (λ t. claims s p t (reserved s d) l) (d .next) (d .loose) (next-not-loose s d (o .rel .unique))
 
-  full-false : (d : Desk) (b : Bool) → accepted (unless (if b then some 7 else none) d (Answer.number (d .next), reserved s d) .0) ≡ true → b ≡ false
+  full-false : (d : Desk) (b : Bool) → accepted (unless (if b then some Because.Full else none) d (Answer.number (d .next), reserved s d) .0) ≡ true → b ≡ false
   full-false d true h = absurd (false≢true h)
   full-false d false h = refl
 
@@ -605,10 +607,10 @@ module _ (s : Setup) (p : ℕ) (w : 16 ≤ s .width) where
 
   after-reserve : (j : List ℕ) (d : Desk) (i : List ℕ) (e : Desk) (m : List (ℕ × ℕ)) (l : List Call) (c : Call)
       → RelO s p j d i e m (claimed s p d (c ∷ l)) → about p d c ≡ false → reserves s p d c l ≡ true → There j d i e m l c
-  unfolding reserves about step claims
+  unfolding reserves about step claims reserve-refusal
   after-reserve j d i e m l Call.reserve o a h = (
-    reserve-both j d i e m l (first-of ((7, full d) ∷ [])) (first-of ((7, full e) ∷ [])) h
-        (ap (λ b. if b then some 7 else none) (full-there s p j d i e m (λ t. claims s p t d (Call.reserve ∷ l)) o (full-false d (full d) (and-left _ _ h)))) o
+    reserve-both j d i e m l (reserve-refusal d) (reserve-refusal e) h
+        (ap (λ b. if b then some Because.Full else none) (full-there s p j d i e m (λ t. claims s p t d (Call.reserve ∷ l)) o (full-false d (full d) (and-left _ _ h)))) o
         (rel-there j (step s d Call.reserve .1) i e Call.reserve (rel-hidden s p w j d i e Call.reserve (o .rel) a) refl (λ n. refl)),
     refl,
     refl,

@@ -8,13 +8,14 @@ use native.Mathlib.Omega.{arith}
 use lib.Dec.{eqb}
 use lib.ListN.{length, set}
 use Rattle.sizes.specs.Words.{if_then_else_, maybe, given, keep, at, find, drop-first, first-of, times, one-if}
+use Rattle.sizes.specs.declared.refusal.Refusal.the-variants as Because
 use Rattle.sizes.proofs.Tests.{none≢some}
 use Rattle.lifecycle.specs.Lifecycle.{Life, announced, triggered, too-early, expired, finished, started}
 use Rattle.lifecycle.specs.Setup.{Setup}
 use Rattle.definition.specs.Encoder.{Symbol, read}
 use Rattle.definition.specs.FdtSession.{fdt-published, fdt-run}
 use Rattle.definition.specs.Session.{Object, Hand, Session, living, startable, begin, put-back, forced, Turn, idle, sent, serve, go-on, take-on, file-run}
-use Rattle.definition.specs.Desk.{Desk, Request, Call, Answer, opening, in-hands, objects, is, moved, numbered, with-fdt, in-hand, marked, marked-hand, all-published, unlisted, removed, prompted, reserved, toi-for, made, admitted, not-loose, full, add-refusal, publish-refusal, draft-refusal, draft-of, ran, fdt-queued, fdt-ran, step}
+use Rattle.definition.specs.Desk.{Desk, Request, Call, Answer, opening, in-hands, objects, is, moved, numbered, with-fdt, in-hand, marked, marked-hand, all-published, unlisted, removed, prompted, reserved, toi-for, made, admitted, not-loose, full, reserve-refusal, release-refusal, add-refusal, publish-refusal, draft-refusal, draft-of, ran, fdt-queued, fdt-ran, step}
 use Rattle.definition.specs.Apart.{adding}
 use Rattle.definition.proofs.Refused.{either, kept}
 
@@ -220,8 +221,8 @@ module _ (w : Object → ℕ) where
     -- a call that is no add makes no sum larger
     pub lighter : (s : Setup) (d : Desk) (c : Call) → adding c ≡ none → total w (objects (step s d c .1)) ≤ total w (objects d)
     unfolding step reserved numbered removed ran fdt-ran with-fdt objects
-    lighter s d Call.reserve k = kept (λ e. total w (objects e) ≤ total w (objects d)) (first-of ((7, full d) ∷ [])) d _ (omega arith) (λ e. omega arith)
-    lighter s d (Call.release t) k = kept (λ e. total w (objects e) ≤ total w (objects d)) (first-of ((6, not-loose d (some t)) ∷ [])) d _ (omega arith) (λ e. omega arith)
+    lighter s d Call.reserve k = kept (λ e. total w (objects e) ≤ total w (objects d)) (reserve-refusal d) d _ (omega arith) (λ e. omega arith)
+    lighter s d (Call.release t) k = kept (λ e. total w (objects e) ≤ total w (objects d)) (release-refusal d t) d _ (omega arith) (λ e. omega arith)
     lighter s d (Call.add named q) k = absurd (none≢some (sym k))
     lighter s d (Call.remove t) k = moved-lighter d (keep (λ o. not (is t o)) (d .queue)) (map (in-hand (unlisted t)) (d .sessions)) (
         let a = total-keep w (λ o. not (is t o)) (d .queue) in
@@ -239,7 +240,7 @@ module _ (w : Object → ℕ) where
         (λ e. either (λ (x : Desk). total w (objects x) ≤ total w (objects d)) (r .taken) (all-published (with-fdt d (r .fdt))) (with-fdt d (r .fdt)) (published-lighter (with-fdt d (r .fdt))) (omega arith))
     lighter s d (Call.run-file now i) k = go (at (d .sessions) i) refl
       where
-        go : (x : Option Session) → at (d .sessions) i ≡ x → total w (objects (maybe (Answer.refused 8, d) (ran s now i d) x .1)) ≤ total w (objects d)
+        go : (x : Option Session) → at (d .sessions) i ≡ x → total w (objects (maybe (Answer.refused Because.NoSession, d) (ran s now i d) x .1)) ≤ total w (objects d)
         go none e = omega arith
         go (some x) e =
             let r = file-run s (x .priority) now (fdt-queued d) (d .queue) (x .hand) in

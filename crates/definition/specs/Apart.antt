@@ -6,7 +6,9 @@ use mathlib.Core.List.{List, [], _∷_}
 use Prim.Native.Nat.{ℕ, suc, _≤_}
 use lib.Dec.{eqb}
 use lib.ListN.{length}
-use Rattle.sizes.specs.Words.{if_then_else_, maybe, given, any, at, has, within, Each}
+use Rattle.sizes.specs.Words.{if_then_else_, maybe, given, any, at, has, Each}
+use Rattle.sizes.specs.declared.refusal.Refusal.{Refusal}
+use Rattle.sizes.specs.Refusals.{refusal-number}
 use Rattle.lifecycle.specs.Setup.{Setup}
 use Rattle.definition.specs.FdtSession.{Packet}
 use Rattle.definition.specs.Session.{Object, Session}
@@ -65,7 +67,7 @@ number-in (Answer.transferred n) = none
 number-in (Answer.fdt-output b k) = none
 number-in (Answer.output k) = none
 
-abbrev pub refusal-in : Answer → Option ℕ
+abbrev pub refusal-in : Answer → Option Refusal
 refusal-in (Answer.refused n) = some n
 refusal-in (Answer.number t) = none
 refusal-in Answer.done = none
@@ -126,13 +128,20 @@ answer-by f (Answer.output k) = Answer.output (perhaps-by f k)
 
 -- ---- what one run says of a priority
 
--- is it refusal 5, 6 or 7
-abbrev pub is-5-to-7 : Answer → Bool
-is-5-to-7 a = maybe false (within 5 7) (refusal-in a)
+-- the refusals that demand 3's premise bars
+abbrev pub barred : List ℕ
+barred = 5 ∷ 6 ∷ 7 ∷ []
+
+abbrev pub bars : Refusal → Bool
+bars why = has (refusal-number why) barred
+
+-- was the call refused by one of them
+abbrev pub is-barred : Answer → Bool
+is-barred a = elim (refusal-in a) [ none ↦ false | some why ↦ bars why ]
 
 -- an add of the priority that meets refusal 5, 6 or 7. None of its other calls can: a release of an object's number (6) and a reservation that is not made (7) are about nobody
 abbrev pub turned-away : ℕ → Call → Answer → Bool
-turned-away p c a = maybe false (λ x. eqb (x .1 .priority) p && is-5-to-7 a) (adding c)
+turned-away p c a = maybe false (λ x. eqb (x .1 .priority) p && is-barred a) (adding c)
 
 module _ (s : Setup) (p : ℕ) where
   -- the priority's calls in a run from desk d, in order; j has the numbers that its admissions got so far

@@ -6,6 +6,8 @@ use Prim.Native.Nat.{ℕ}
 use lib.Dec.{eqb, leb}
 use lib.ListN.{length, set}
 use Rattle.sizes.specs.Words.{if_then_else_, maybe, given, collect, keep, any, at, has, find, first-of}
+use Rattle.sizes.specs.declared.refusal.Refusal.{Refusal}
+use Rattle.sizes.specs.declared.refusal.Refusal.the-variants as Because
 use Rattle.sizes.specs.Limits.{toi-entries, object-slots, waiting-fdts}
 use Rattle.sizes.specs.declared.partition.Sizes.{Sizes}
 use Rattle.sizes.specs.Toi.{first-toi, next-toi}
@@ -48,7 +50,7 @@ pub data Call : Type 0 where
   run-file : ℕ → ℕ → Call  -- clock, session
 
 pub data Answer : Type 0 where
-  refused : ℕ → Answer
+  refused : Refusal → Answer
   number : ℕ → Answer
   done : Answer
   truth : Bool → Answer
@@ -69,7 +71,7 @@ opening s = record {
 
 -- set-up: refusal 1, and no desk, where a number is out of its range
 unfoldable pub set-up : Setup → Answer × Option Desk
-set-up s = if sound s then (done, some (opening s)) else (refused 1, none)
+set-up s = if sound s then (done, some (opening s)) else (refused Because.SetUp, none)
 
 -- the objects that sessions have in hand
 unfoldable pub in-hands : List Session → List Object
@@ -190,23 +192,31 @@ full d = leb toi-entries (length (numbers d))
 unfoldable pub no-room : Desk → Option ℕ → Bool
 no-room d named = leb object-slots (length (objects d)) || (not (given named) && full d)
 
+-- why a reservation is refused
+unfoldable pub reserve-refusal : Desk → Option Refusal
+reserve-refusal d = first-of ((Because.Full, full d) ∷ [])
+
+-- why a release is refused
+unfoldable pub release-refusal : Desk → ℕ → Option Refusal
+release-refusal d t = first-of ((Because.NotLoose, not-loose d (some t)) ∷ [])
+
 -- why an add is refused
-unfoldable pub add-refusal : Setup → Desk → Option ℕ → Request → Option ℕ
+unfoldable pub add-refusal : Setup → Desk → Option ℕ → Request → Option Refusal
 add-refusal s d named q = first-of
-    ((2, no-session d (q .priority))
-    ∷ (3, d .complete)
-    ∷ (4, bad-blocks (own-sizes s q) (q .part .size))
-    ∷ (5, bad-object-part s d (q .part))
-    ∷ (6, not-loose d named)
-    ∷ (7, no-room d named)
+    ((Because.NoPriority, no-session d (q .priority))
+    ∷ (Because.Complete, d .complete)
+    ∷ (Because.Sizes, bad-blocks (own-sizes s q) (q .part .size))
+    ∷ (Because.Part, bad-object-part s d (q .part))
+    ∷ (Because.NotLoose, not-loose d named)
+    ∷ (Because.Full, no-room d named)
     ∷ [])
 
 -- why a publish is refused; the FDT queue holds 4
-unfoldable pub publish-refusal : Setup → Fdt → Part → Option ℕ
+unfoldable pub publish-refusal : Setup → Fdt → Part → Option Refusal
 publish-refusal s f c = first-of
-    ((4, bad-blocks (s .sizes) (c .size))
-    ∷ (5, bad-fdt-part s (f .state) c || eqb (c .size) 0)
-    ∷ (7, leb waiting-fdts (length (f .state .waiting)))
+    ((Because.Sizes, bad-blocks (s .sizes) (c .size))
+    ∷ (Because.Part, bad-fdt-part s (f .state) c || eqb (c .size) 0)
+    ∷ (Because.Full, leb waiting-fdts (length (f .state .waiting)))
     ∷ [])
 
 -- a draft of length 0 is no draft
@@ -214,8 +224,8 @@ unfoldable pub draft-of : Option Part → Option Part
 draft-of = maybe none (λ c. if eqb (c .size) 0 then none else some c)
 
 -- why an FDT run is refused: its draft is bad, whether or not it would be taken
-unfoldable pub draft-refusal : Setup → Fdt → Option Part → Option ℕ
-draft-refusal s f draft = maybe none (λ c. first-of ((4, bad-blocks (s .sizes) (c .size)) ∷ (5, bad-fdt-part s (f .state) c) ∷ [])) (draft-of draft)
+unfoldable pub draft-refusal : Setup → Fdt → Option Part → Option Refusal
+draft-refusal s f draft = maybe none (λ c. first-of ((Because.Sizes, bad-blocks (s .sizes) (c .size)) ∷ (Because.Part, bad-fdt-part s (f .state) c) ∷ [])) (draft-of draft)
 
 -- is an FDT queued: then file sessions answer nothing
 unfoldable pub fdt-queued : Desk → Bool
@@ -225,9 +235,9 @@ abbrev pub Result : Type 0
 Result = Answer × Desk
 
 -- the refusal, with the desk as it was; or the result
-abbrev pub unless : Option ℕ → Desk → Result → Result
+abbrev pub unless : Option Refusal → Desk → Result → Result
 unless none d r = r
-unless (some n) d r = (refused n, d)
+unless (some why) d r = (refused why, d)
 
 -- the run of file session x, which is session i
 unfoldable pub ran : Setup → ℕ → ℕ → Desk → Session → Result
@@ -243,8 +253,8 @@ fdt-ran s now draft d =
 
 -- one call
 unfoldable pub step : Setup → Desk → Call → Result
-step s d reserve = unless (first-of ((7, full d) ∷ [])) d (number (d .next), reserved s d)
-step s d (release t) = unless (first-of ((6, not-loose d (some t)) ∷ [])) d (done, numbered d (d .next) (unloosed t (d .loose)))
+step s d reserve = unless (reserve-refusal d) d (number (d .next), reserved s d)
+step s d (release t) = unless (release-refusal d t) d (done, numbered d (d .next) (unloosed t (d .loose)))
 step s d (add named q) =
     unless (add-refusal s d named q) d
     (number (toi-for d named), admitted s (toi-for d named) q (if given named then d else reserved s d))
@@ -255,7 +265,7 @@ step s d (transfers t) = (transferred (maybe none (λ (o : Object). some (o .lif
 step s d complete = (done, record { complete = true; next = d .next; loose = d .loose; queue = d .queue; sessions = d .sessions; fdt = d .fdt })
 step s d (publish now c) = unless (publish-refusal s (d .fdt) c) d (done, all-published (with-fdt d (fdt-published now c (d .fdt))))
 step s d (run-fdt now draft) = unless (draft-refusal s (d .fdt) draft) d (fdt-ran s now (draft-of draft) d)
-step s d (run-file now i) = maybe (refused 8, d) (ran s now i d) (at (d .sessions) i)
+step s d (run-file now i) = maybe (refused Because.NoSession, d) (ran s now i d) (at (d .sessions) i)
 
 -- a run of calls: each call's answer, and the desk at the end
 unfoldable pub run : Setup → Desk → List Call → List Answer × Desk

@@ -5,6 +5,7 @@ use mathlib.Core.Option.{Option, none, some}
 use mathlib.Core.List.{List, [], _∷_, map}
 use Prim.Native.Nat.{ℕ, zero, suc, _-_, _^_}
 use Rattle.sizes.specs.Words.{maybe, one-if}
+use Rattle.sizes.specs.Refusals.{refusal-number}
 use Rattle.sizes.specs.Partition.{sbn, blocks-of, block-length}
 use Rattle.sizes.specs.declared.partition.Sizes.{Sizes}
 use Rattle.sizes.specs.Toi.{first-toi, next-toi}
@@ -125,7 +126,7 @@ packet-shown b (some k) =
 
 -- an answer in numbers: refused n is 0 n; a number 1 t; yes or no 2 b; a total 3 n; done 9
 abbrev pub show : Answer → List ℕ
-show (Answer.refused n) = 0 ∷ n ∷ []
+show (Answer.refused why) = 0 ∷ refusal-number why ∷ []
 show (Answer.number t) = 1 ∷ t ∷ []
 show Answer.done = 9 ∷ []
 show (Answer.truth b) = 2 ∷ one-if b ∷ []

@@ -136,7 +136,7 @@ pub found : {A : Type 0} (ok : A → Bool) (l : List A) (a : A) → find ok l �
 found ok l a e = each-find (λ a. Unit {0}) ok l a e (each-all (λ a. Unit {0}) (λ a. tt) l) .1
 
 -- a table with no number: each test fails
-pub first-none : (n : ℕ) (t : Bool) (l : List (ℕ × Bool)) → first-of ((n, t) ∷ l) ≡ none → (t ≡ false) × (first-of l ≡ none)
+pub first-none : {A : Type 0} (n : A) (t : Bool) (l : List (A × Bool)) → first-of ((n, t) ∷ l) ≡ none → (t ≡ false) × (first-of l ≡ none)
 first-none n true l e = absurd (none≢some (sym e))
 first-none n false l e = (refl, e)
 

@@ -1,6 +1,7 @@
--- Read in this order: Words, Limits, Partition, PartitionPromises, Toi, Allocator.
+-- Read in this order: Words, Limits, Refusals, Partition, PartitionPromises, Toi, Allocator.
 pub mod Words
 pub mod Limits
+pub mod Refusals
 pub mod Partition
 pub mod PartitionPromises
 pub mod Toi

@@ -93,8 +93,8 @@ module _ {A : Type 0} where
 abbrev pub within : ℕ → ℕ → ℕ → Bool
 within low high n = leb low n && leb n high
 
--- the first number of a table whose test holds
-abbrev pub first-of : List (ℕ × Bool) → Option ℕ
+-- the first entry of a table whose test holds
+abbrev pub first-of : {A : Type 0} → List (A × Bool) → Option A
 first-of [] = none
 first-of (r ∷ l) = if r .1 then some (r .0) else first-of l
 
