@@ -109,7 +109,7 @@ session-seen p f l n = ap (maybe false (λ (x : Session). eqb (x .priority) p)) 
     go (some x) = refl
 
 -- a session of the priority stands there at the same place
-pub session-there : (s : Setup) (p : ℕ) (j : List ℕ) (d : Desk) (i : List ℕ) (e : Desk) (now n : ℕ) → Rel s p j d i e → about p d (Call.run-file now n) ≡ true → about p e (Call.run-file now n) ≡ true
+pub session-there : (s : Setup) (p : ℕ) (j : List ℕ) (d : Desk) (i : List ℕ) (e : Desk) (now n : ℕ) → Rel s p j d i e → about p d (Call.run-file n now) ≡ true → about p e (Call.run-file n now) ≡ true
 unfolding about
 session-there s p j d i e now n r a = sym (session-seen p (key i) (e .sessions) n) ∙ ap (λ (v : Desk). maybe false (λ (x : Session). eqb (x .priority) p) (at (v .sessions) n)) (sym (r .same))
     ∙ session-seen p (key j) (d .sessions) n ∙ a
@@ -212,14 +212,12 @@ unfolding about
 about-add p d (Call.add named q) x e = let z : (named, q) ≡ x = cc in ap (λ (y : Option ℕ × Request). eqb (y .1 .priority) p) z
 about-add p d Call.reserve x e = absurd (none≢some e)
 about-add p d (Call.release t) x e = absurd (none≢some e)
-about-add p d (Call.remove t) x e = absurd (none≢some e)
-about-add p d (Call.trigger t f) x e = absurd (none≢some e)
-about-add p d (Call.listed t) x e = absurd (none≢some e)
-about-add p d (Call.transfers t) x e = absurd (none≢some e)
+about-add p d (Call.touch t y) x e = absurd (none≢some e)
+about-add p d (Call.ask q) x e = absurd (none≢some e)
 about-add p d Call.complete x e = absurd (none≢some e)
 about-add p d (Call.publish now c) x e = absurd (none≢some e)
 about-add p d (Call.run-fdt now draft) x e = absurd (none≢some e)
-about-add p d (Call.run-file now n) x e = absurd (none≢some e)
+about-add p d (Call.run-file n now) x e = absurd (none≢some e)
 
 -- a call that does not admit for a priority notes nothing for it
 noted-other : (r : ℕ) (c : Call) (a : Answer) (j : List ℕ) → ((x : Option ℕ × Request) → adding c ≡ some x → eqb (x .1 .priority) r ≡ false) → noted r c a j ≡ j

@@ -18,13 +18,14 @@ use Rattle.lifecycle.specs.Setup.{Setup, bad-blocks}
 use Rattle.lifecycle.specs.Fdt.{Instance, next-fdt, fdt-done}
 use Rattle.definition.specs.FdtSession.{Fdt, FdtTurn, FdtHand, Packet, fdt-published, fdt-send, fdt-attempt, fdt-idle, fdt-run}
 use Rattle.definition.specs.Session.{Object, Hand, Session, living, Turn, file-run}
-use Rattle.definition.specs.Desk.{Desk, Request, Call, Answer, opening, in-hands, objects, numbers, is, listed-in-hands, listed-as, moved, numbered, with-fdt, in-hand, marked, marked-hand, all-published, unlisted, removed, prompted, reserved, toi-for, made, admitted, own-sizes, no-session, bad-object-part, not-loose, full, no-room, reserve-refusal, release-refusal, add-refusal, publish-refusal, draft-refusal, draft-of, Result, unless, ran, step, unloosed, fdt-queued, fdt-ran}
-use Rattle.definition.specs.Apart.{mine, owns, about, noted, key, call-by, packet-by, perhaps-by, answer-by, bars, is-barred, turned-away, calls, answers, smooth, Alike as AlikeRuns, PacketNamed, Named}
+use Rattle.definition.specs.Desk.{Desk, Request, Call, Answer, opening, in-hands, objects, numbers, is, listed-in-hands, listed-as, moved, numbered, with-fdt, in-hand, marked, marked-hand, all-published, reserved, toi-for, made, admitted, own-sizes, no-session, bad-object-part, not-loose, full, no-room, reserve-refusal, release-refusal, add-refusal, publish-refusal, draft-refusal, draft-of, Result, unless, ran, step, unloosed, fdt-queued, fdt-ran, Touch, Question, waiting-after, hand-after, touched-waiting, touched-hand, touched, answer-to}
+use Rattle.definition.specs.Apart.{mine, owns, about, noted, key, call-by, packet-by, perhaps-by, answer-by, bars, is-barred, turned-away, calls, answers, smooth, Alike as AlikeRuns, PacketNamed, Named, about-question, question-by}
 use Rattle.definition.proofs.Numbers.{Unique, unique-step, unique-opening, tois, admissible}
 use Rattle.definition.proofs.View.{retag, retag-held, seen, see, seen-append, seen-mine, seen-other, Alike, seen-find, seen-map, seen-keep, seen-kept, seen-unmoved, see-turn, Sends, file-run-seen}
 use Rattle.definition.proofs.Known.{Noted, HeldFits, Fits, PacketNoted, Known, file-run-known, file-run-other, known-step, known-opening}
 use Rattle.sizes.proofs.Tests.{Tested, pass, fail, tested, and-left, and-right, or-left, or-right}
 use Rattle.sizes.proofs.Lists.{each-append, each-imp, each-at, map-set, map-set-same, at-map, times-append, has-times, each-left, each-right, each-both, each-all, map-comm, map-hidden}
+use Rattle.definition.proofs.Touches.{touched-kept, renumbered-after, seen-touched, seen-still}
 
 -- the number that an admission got, the last of them first
 unfoldable pub got : List ℕ → ℕ → ℕ
@@ -84,14 +85,12 @@ abbrev pub own-step : Setup → Desk → Call → Result
 own-step s d (Call.add named q) = unless (early-refusal s d q) d (Answer.number (d .next), one-more s q d)
 own-step s d Call.reserve = step s d Call.reserve
 own-step s d (Call.release t) = step s d (Call.release t)
-own-step s d (Call.remove t) = step s d (Call.remove t)
-own-step s d (Call.trigger t f) = step s d (Call.trigger t f)
-own-step s d (Call.listed t) = step s d (Call.listed t)
-own-step s d (Call.transfers t) = step s d (Call.transfers t)
+own-step s d (Call.touch t x) = step s d (Call.touch t x)
+own-step s d (Call.ask q) = step s d (Call.ask q)
 own-step s d Call.complete = step s d Call.complete
 own-step s d (Call.publish now c) = step s d (Call.publish now c)
 own-step s d (Call.run-fdt now draft) = step s d (Call.run-fdt now draft)
-own-step s d (Call.run-file now i) = step s d (Call.run-file now i)
+own-step s d (Call.run-file i now) = step s d (Call.run-file i now)
 
 abbrev pub own-run : Setup → Desk → List Call → List Answer
 own-run s d [] = []
@@ -298,38 +297,33 @@ published-seen p j d k = λ i. record {
     commute (some h) = λ e. elim (h .listed) as (λ b. retag-held (key j) (if b then record { object = marked (h .object); listed = true; encoder = h .encoder; pace = h .pace } else h)
         ≡ (if b then record { object = marked (retag (key j) (h .object)); listed = true; encoder = h .encoder; pace = h .pace } else retag-held (key j) h)) [ true ↦ refl | false ↦ refl ]
 
--- remove of an owned number, as it is seen
-removed-seen : (p : ℕ) (j : List ℕ) (d : Desk) (t : ℕ) → Known p j d → has t j ≡ true → removed (key j t) (view p j d) ≡ view p j (removed t d)
-unfolding removed moved is unlisted
-removed-seen p j d t k e = λ i. record {
+-- a touch of an owned number, as it is seen
+touched-seen : (p : ℕ) (j : List ℕ) (d : Desk) (t : ℕ) (x : Touch) → Known p j d → has t j ≡ true → touched (key j t) x (view p j d) ≡ view p j (touched t x d)
+unfolding touched moved is touched-waiting touched-hand
+touched-seen p j d t x k e = λ i. record {
   complete = d .complete;
   next = suc (length j);
   loose = [];
   fdt = d .fdt;
-  queue = sym (seen-keep p (key j) (λ o. not (is t o)) (λ o. not (is (key j t) o)) (d .queue)
-      (each-imp (Noted p j) (λ o. mine p o ≡ true → not (eqb (key j (o .toi)) (key j t)) ≡ not (eqb (o .toi) t)) (λ o n m. ap not (key-eqb j t (o .toi) e (n m))) (d .queue) (k .waiting))) i;
-  sessions = sym (map-comm (see p (key j)) (in-hand (unlisted t)) (in-hand (unlisted (key j t))) (d .sessions)
-      (each-imp (Fits p j) (λ x. see p (key j) (in-hand (unlisted t) x) ≡ in-hand (unlisted (key j t)) (see p (key j) x))
-      (λ x u. see-in-hand p (key j) (unlisted t) (unlisted (key j t)) j x u (commute (x .priority) (x .hand) u)) (d .sessions) (k .serving))) i;
+  queue = sym (seen-touched (touched-waiting t x) (touched-kept t x) p (key j) (touched-waiting (key j t) x) (d .queue) (each-imp (Noted p j) Commute waits (d .queue) (k .waiting))) i;
+  sessions = sym (map-comm (see p (key j)) (in-hand (touched-hand t x)) (in-hand (touched-hand (key j t) x)) (d .sessions)
+      (each-imp (Fits p j) (λ y. see p (key j) (in-hand (touched-hand t x) y) ≡ in-hand (touched-hand (key j t) x) (see p (key j) y))
+      (λ y u. see-in-hand p (key j) (touched-hand t x) (touched-hand (key j t) x) j y u (commute (y .priority) (y .hand) u)) (d .sessions) (k .serving))) i;
 }
   where
-    commute : (r : ℕ) (h : Option Hand) → HeldFits p j r h → Commutes p (key j) (unlisted t) (unlisted (key j t)) h
+    Commute : Object → Type 0
+    Commute o = mine p o ≡ true → touched-waiting (key j t) x (retag (key j) o) ≡ over (retag (key j)) (touched-waiting t x o)
+
+    waits : (o : Object) → Noted p j o → Commute o
+    waits o n m = rw (key-eqb j t (o .toi) e (n m))
+        (elim (eqb (o .toi) t) as (λ b. (if b then waiting-after x (retag (key j) o) else some (retag (key j) o)) ≡ over (retag (key j)) (if b then waiting-after x o else some o))
+        [ true ↦ renumbered-after (key j) x .0 o | false ↦ refl ])
+
+    commute : (r : ℕ) (h : Option Hand) → HeldFits p j r h → Commutes p (key j) (touched-hand t x) (touched-hand (key j t) x) h
     commute r none u = tt
     commute r (some h) u = λ m. rw (key-eqb j t (h .object .toi) e (u .1 m))
-        (elim (eqb (h .object .toi) t) as (λ b. retag-held (key j) (if b then record { object = h .object; listed = false; encoder = h .encoder; pace = h .pace } else h)
-        ≡ (if b then record { object = retag (key j) (h .object); listed = false; encoder = h .encoder; pace = h .pace } else retag-held (key j) h)) [ true ↦ refl | false ↦ refl ])
-
--- trigger of an owned number, as it is seen
-prompted-seen : (p : ℕ) (j : List ℕ) (q : List Object) (t : ℕ) (x : Option ℕ) → Each (Noted p j) q → has t j ≡ true
-    → map (prompted (key j t) x) (seen p (key j) q) ≡ seen p (key j) (map (prompted t x) q)
-unfolding prompted is
-prompted-seen p j q t x u e = sym (seen-map p (key j) (prompted t x) (prompted (key j t) x) q
-    (each-imp (Noted p j) (λ o. (mine p (prompted t x o) ≡ mine p o) × (mine p o ≡ true → retag (key j) (prompted t x o) ≡ prompted (key j t) x (retag (key j) o)))
-    (λ o n. (
-      (elim (eqb (o .toi) t) as (λ b. mine p (if b then living (triggered x (o .life)) o else o) ≡ mine p o) [ true ↦ refl | false ↦ refl ]),
-      λ m. rw (key-eqb j t (o .toi) e (n m)) (elim (eqb (o .toi) t) as (λ b. retag (key j) (if b then living (triggered x (o .life)) o else o)
-          ≡ (if b then living (triggered x (o .life)) (retag (key j) o) else retag (key j) o)) [ true ↦ refl | false ↦ refl ]),
-    )) q u))
+        (elim (eqb (h .object .toi) t) as (λ b. retag-held (key j) (if b then hand-after x h else h) ≡ (if b then hand-after x (retag-held (key j) h) else retag-held (key j) h))
+        [ true ↦ sym (renumbered-after (key j) x .1 h) | false ↦ refl ])
 
 -- what a session holds has the property
 abbrev pub HeldHas : (Object → Type 0) → Option Hand → Type 0
@@ -355,37 +349,29 @@ each-sent P (x ∷ l) u = go (each-sent P l) (x .hand) u
     go back none v = (tt, back v)
     go back (some h) v = (v .0, back (v .1))
 
--- remove and trigger of a number that is not owned do not show
-removed-hidden : (p : ℕ) (j : List ℕ) (d : Desk) (t : ℕ) → Known p j d → owns p d t ≡ false → view p j (removed t d) ≡ view p j d
-unfolding removed moved owns objects unlisted
-removed-hidden p j d t k e = λ i. record {
+-- a touch of a number that is not owned does not show
+touched-hidden : (p : ℕ) (j : List ℕ) (d : Desk) (t : ℕ) (x : Touch) → Known p j d → owns p d t ≡ false → view p j (touched t x d) ≡ view p j d
+unfolding touched moved owns objects touched-waiting touched-hand
+touched-hidden p j d t x k e = λ i. record {
   complete = d .complete;
   next = suc (length j);
   loose = [];
   fdt = d .fdt;
-  queue = seen-kept p (key j) (λ o. not (is t o)) (d .queue)
-      (each-imp (λ o. mine p o ≡ true → is t o ≡ false) (λ o. mine p o ≡ true → not (is t o) ≡ true) (λ o n m. ap not (n m)) (d .queue)
+  queue = seen-still (touched-waiting t x) (touched-kept t x) p (key j) (d .queue)
+      (each-imp (λ o. mine p o ≡ true → is t o ≡ false) (λ o. mine p o ≡ true → touched-waiting t x o ≡ some o) (λ o n m. rw (n m)) (d .queue)
       (each-left (λ o. mine p o ≡ true → is t o ≡ false) (d .queue) (in-hands (d .sessions)) away)) i;
-  sessions = map-hidden (see p (key j)) (in-hand (unlisted t)) (d .sessions)
-      (each-both (Fits p j) (λ (x : Session). HeldHas (λ o. mine p o ≡ true → is t o ≡ false) (x .hand)) (λ x. see p (key j) (in-hand (unlisted t) x) ≡ see p (key j) x)
-      (λ x u v. see-unmoved p (key j) (unlisted t) (unlisted t) j x u (still (x .hand) v)) (d .sessions) (k .serving)
+  sessions = map-hidden (see p (key j)) (in-hand (touched-hand t x)) (d .sessions)
+      (each-both (Fits p j) (λ (y : Session). HeldHas (λ o. mine p o ≡ true → is t o ≡ false) (y .hand)) (λ y. see p (key j) (in-hand (touched-hand t x) y) ≡ see p (key j) y)
+      (λ y u v. see-unmoved p (key j) (touched-hand t x) (touched-hand t x) j y u (still (y .hand) v)) (d .sessions) (k .serving)
       (each-sent (λ o. mine p o ≡ true → is t o ≡ false) (d .sessions) (each-right (λ o. mine p o ≡ true → is t o ≡ false) (d .queue) (in-hands (d .sessions)) away))) i;
 }
   where
     away : Each (λ o. mine p o ≡ true → is t o ≡ false) (d .queue ++ in-hands (d .sessions))
     away = unowned p t (d .queue ++ in-hands (d .sessions)) e
 
-    still : (h : Option Hand) → HeldHas (λ o. mine p o ≡ true → is t o ≡ false) h → Idle p (key j) (unlisted t) (unlisted t) h
+    still : (h : Option Hand) → HeldHas (λ o. mine p o ≡ true → is t o ≡ false) h → Idle p (key j) (touched-hand t x) (touched-hand t x) h
     still none v = tt
     still (some h) v = λ m. rw (v m)
-
-prompted-hidden : (p : ℕ) (j : List ℕ) (d : Desk) (t : ℕ) (x : Option ℕ) → owns p d t ≡ false
-    → seen p (key j) (map (prompted t x) (d .queue)) ≡ seen p (key j) (d .queue)
-unfolding owns objects prompted
-prompted-hidden p j d t x e = seen-unmoved p (key j) (prompted t x) (d .queue)
-    (each-imp (λ o. mine p o ≡ true → is t o ≡ false) (λ o. (mine p (prompted t x o) ≡ mine p o) × (mine p o ≡ true → prompted t x o ≡ o))
-    (λ o n. ((elim (is t o) as (λ b. mine p (if b then living (triggered x (o .life)) o else o) ≡ mine p o) [ true ↦ refl | false ↦ refl ]), λ m. rw (n m))) (d .queue)
-    (each-left (λ o. mine p o ≡ true → is t o ≡ false) (d .queue) (in-hands (d .sessions)) (unowned p t (d .queue ++ in-hands (d .sessions)) e)))
 
 -- keys that agree on a list's numbers show the same
 seen-same : (p : ℕ) (f g : ℕ → ℕ) (q : List Object) → Each (λ o. f (o .toi) ≡ g (o .toi)) q → seen p f q ≡ seen p g q
@@ -669,25 +655,22 @@ hidden p j s d (Call.add named q) k e = go (add-refusal s d named q)
     go : (x : Option Refusal) → view p (noted p (Call.add named q) (unless x d (add-result s d named q) .0) j) (unless x d (add-result s d named q) .1) ≡ view p j d
     go none = rw e (admitted-hidden p j s (toi-for d named) q (if given named then d else reserved s d) e ∙ maybe-reserved-hidden p j s d named)
     go (some n) = refl
-hidden p j s d (Call.remove t) k e = removed-hidden p j d t k e
-hidden p j s d (Call.trigger t x) k e = λ i. record {
-  complete = d .complete;
-  next = suc (length j);
-  loose = [];
-  fdt = d .fdt;
-  sessions = map (see p (key j)) (d .sessions);
-  queue = prompted-hidden p j d t x e i;
-}
-hidden p j s d (Call.listed t) k e = refl
-hidden p j s d (Call.transfers t) k e = refl
+hidden p j s d (Call.touch t x) k e = touched-hidden p j d t x k e
+hidden p j s d (Call.ask q) k e = refl
 hidden p j s d Call.complete k e = absurd (true≢false e)
 hidden p j s d (Call.publish now c) k e = absurd (true≢false e)
 hidden p j s d (Call.run-fdt now draft) k e = absurd (true≢false e)
-hidden p j s d (Call.run-file now i) k e = go (at (d .sessions) i) refl e
+hidden p j s d (Call.run-file i now) k e = go (at (d .sessions) i) refl e
   where
     go : (x : Option Session) → at (d .sessions) i ≡ x → maybe false (λ (x : Session). eqb (x .priority) p) x ≡ false → view p j (maybe (Answer.refused Because.NoSession, d) (ran s now i d) x .1) ≡ view p j d
     go none a e = refl
     go (some x) a e = ran-hidden p j s now i d x a k e
+
+-- a question about the priority is answered as on its own desk
+answer-seen : (p : ℕ) (j : List ℕ) (s : Setup) (d : Desk) (q : Question) → Unique s d → Known p j d → about-question p d q ≡ true
+    → answer-to (view p j d) (question-by (key j) q) ≡ answer-by (key j) (answer-to d q)
+answer-seen p j s d (Question.listed t) u k e = ap Answer.truth (given-seen p j s d t u k e)
+answer-seen p j s d (Question.transfers t) u k e = ap Answer.transferred (total-seen p j s d t u k e)
 
 -- one of the priority's is answered as on its own desk
 pub shown : (p : ℕ) (j : List ℕ) (s : Setup) (d : Desk) (c : Call) → Unique s d → Known p j d → about p d c ≡ true → turned-away p c (step s d c .0) ≡ false
@@ -696,20 +679,8 @@ unfolding step about numbered moved with-fdt fdt-ran
 shown p j s d Call.reserve u k e h = absurd (false≢true e)
 shown p j s d (Call.release t) u k e h = absurd (false≢true e)
 shown p j s d (Call.add named q) u k e h = add-shown p j s d named q u e (rw e at h)
-shown p j s d (Call.remove t) u k e h = λ i. (Answer.truth (given-seen p j s d t u k e i), removed-seen p j d t k (owns-noted p j d t k e) i)
-shown p j s d (Call.trigger t x) u k e h = λ i. (
-  Answer.truth (given-seen p j s d t u k e i),
-  record {
-    complete = d .complete;
-    next = suc (length j);
-    loose = [];
-    fdt = d .fdt;
-    sessions = map (see p (key j)) (d .sessions);
-    queue = prompted-seen p j (d .queue) t x (k .waiting) (owns-noted p j d t k e) i;
-  },
-)
-shown p j s d (Call.listed t) u k e h = λ i. (Answer.truth (given-seen p j s d t u k e i), view p j d)
-shown p j s d (Call.transfers t) u k e h = λ i. (Answer.transferred (total-seen p j s d t u k e i), view p j d)
+shown p j s d (Call.touch t x) u k e h = λ i. (Answer.truth (given-seen p j s d t u k e i), touched-seen p j d t x k (owns-noted p j d t k e) i)
+shown p j s d (Call.ask q) u k e h = λ i. (answer-seen p j s d q u k e i, view p j d)
 shown p j s d Call.complete u k e h = refl
 shown p j s d (Call.publish now c) u k e h = go (publish-refusal s (d .fdt) c)
   where
@@ -727,7 +698,7 @@ shown p j s d (Call.run-fdt now draft) u k e h = go (draft-refusal s (d .fdt) dr
         )
     go none r v = λ i. (fdt-answer (key j) (r .taken) (r .packet) v i, fdt-seen p j d r k i)
     go (some n) r v = refl
-shown p j s d (Call.run-file now i) u k e h = rw (at-map (see p (key j)) (d .sessions) i) (go (at (d .sessions) i) refl e)
+shown p j s d (Call.run-file i now) u k e h = rw (at-map (see p (key j)) (d .sessions) i) (go (at (d .sessions) i) refl e)
   where
     go : (x : Option Session) → at (d .sessions) i ≡ x → maybe false (λ (x : Session). eqb (x .priority) p) x ≡ true
         → maybe (Answer.refused Because.NoSession, view p j d) (ran s now i (view p j d)) (over (see p (key j)) x)
@@ -772,6 +743,11 @@ fdt-named : (f : ℕ → ℕ) (k : Option Packet) → FdtPacket k → PacketName
 fdt-named f none u = tt
 fdt-named f (some k) u = λ z. absurd (true≢false (sym u ∙ z))
 
+-- a question names no packet
+answer-named : (f : ℕ → ℕ) (d : Desk) (q : Question) → Named (answer-by f (answer-to d q))
+answer-named f d (Question.listed t) = tt
+answer-named f d (Question.transfers t) = tt
+
 -- a call of the priority
 named-step : (p : ℕ) (j : List ℕ) (s : Setup) (d : Desk) (c : Call) → Known p j d → about p d c ≡ true → Named (answer-by (key (noted p c (step s d c .0) j)) (step s d c .0))
 unfolding step about ran fdt-ran
@@ -782,10 +758,8 @@ named-step p j s d (Call.add named q) k e = go (add-refusal s d named q)
     go : (x : Option Refusal) → Named (answer-by (key (noted p (Call.add named q) (unless x d (add-result s d named q) .0) j)) (unless x d (add-result s d named q) .0))
     go none = tt
     go (some n) = tt
-named-step p j s d (Call.remove t) k e = tt
-named-step p j s d (Call.trigger t x) k e = tt
-named-step p j s d (Call.listed t) k e = tt
-named-step p j s d (Call.transfers t) k e = tt
+named-step p j s d (Call.touch t x) k e = tt
+named-step p j s d (Call.ask q) k e = answer-named (key j) d q
 named-step p j s d Call.complete k e = tt
 named-step p j s d (Call.publish now c) k e = go (publish-refusal s (d .fdt) c)
   where
@@ -800,7 +774,7 @@ named-step p j s d (Call.run-fdt now draft) k e = go (draft-refusal s (d .fdt) d
     go : (x : Option Refusal) → Named (answer-by (key j) (unless x d (Answer.fdt-output (r .taken) (r .packet), if r .taken then all-published (with-fdt d (r .fdt)) else with-fdt d (r .fdt)) .0))
     go none = fdt-named (key j) (r .packet) (fdt-run-packet s now (draft-of draft) (d .fdt))
     go (some n) = tt
-named-step p j s d (Call.run-file now i) k e = go (at (d .sessions) i) refl e
+named-step p j s d (Call.run-file i now) k e = go (at (d .sessions) i) refl e
   where
     go : (x : Option Session) → at (d .sessions) i ≡ x → maybe false (λ (x : Session). eqb (x .priority) p) x ≡ true → Named (answer-by (key j) (maybe (Answer.refused Because.NoSession, d) (ran s now i d) x .0))
     go none a e = tt

@@ -1,5 +1,5 @@
 -- What holds of each object as it is admitted, and does not read its life, holds of every object at every moment. Used for sound E and B, and so: a run's rounds are enough.
-use mathlib.Core.Path.{_≡_, refl}
+use mathlib.Core.Path.{_≡_, refl, subst, sym}
 use mathlib.Core.Bool.{Bool, true, false, not, _&&_}
 use mathlib.Core.Option.{Option, none, some}
 use mathlib.Core.List.{List, [], _∷_, _++_, map}
@@ -19,13 +19,14 @@ use Rattle.lifecycle.specs.Lifecycle.{Life, announced, triggered, too-early, ex
 use Rattle.lifecycle.specs.Setup.{Setup, sound-sizes, bad-blocks}
 use Rattle.definition.specs.FdtSession.{Fdt, FdtTurn, fdt-published, fdt-run}
 use Rattle.definition.specs.Session.{Object, Hand, Session, living, startable, begin, put-back, forced, Turn, idle, sent, serve, go-on, take-on, file-run}
-use Rattle.definition.specs.Desk.{Desk, Request, Call, Answer, opening, in-hands, objects, is, moved, numbered, with-fdt, in-hand, marked, marked-hand, all-published, unlisted, removed, prompted, reserved, toi-for, own-sizes, made, admitted, not-loose, full, reserve-refusal, release-refusal, add-refusal, publish-refusal, draft-refusal, draft-of, unless, ran, step, run, unloosed, fdt-queued, fdt-ran}
+use Rattle.definition.specs.Desk.{Desk, Request, Call, Answer, opening, in-hands, objects, is, moved, numbered, with-fdt, in-hand, marked, marked-hand, all-published, reserved, toi-for, own-sizes, made, admitted, not-loose, full, reserve-refusal, release-refusal, add-refusal, publish-refusal, draft-refusal, draft-of, unless, ran, step, run, unloosed, fdt-queued, fdt-ran, Touch, touched-waiting, touched-hand, touched}
 use Rattle.sizes.specs.Words.{Each}
 use Rattle.sizes.proofs.Tests.{or-left, or-right}
 use Rattle.sizes.proofs.Lists.{each-append, each-keep, each-drop-first, each-map, each-set, each-find, each-at, each-left, each-right}
 use Rattle.definition.specs.TotalPromises.{InRange}
 use Rattle.definition.proofs.Weights.{none-yet}
 use Rattle.definition.proofs.Numbers.{blocks-fit}
+use Rattle.definition.proofs.Touches.{touched-kept, touched-hand-kept, each-touched}
 
 -- what a session holds
 abbrev pub InHand : (Object → Type 0) → Option Hand → Type 0
@@ -113,19 +114,14 @@ module _ (P : Object → Type 0) (stable : (x : Life) (o : Object) → P o → P
   unfolding admitted unloosed
   admitted-all s t q d v u = record { waiting = each-append P (d .queue) (made s t q ∷ []) (u .waiting) (v, tt); serving = u .serving }
 
-  unlisted-all : (t : ℕ) (h : Hand) → P (h .object) → P (unlisted t h .object)
-  unfolding unlisted
-  unlisted-all t h v = elim (is t (h .object)) as (λ b. P ((if b then record { object = h .object; listed = false; encoder = h .encoder; pace = h .pace } else h) .object)) [ true ↦ v | false ↦ v ]
-
-  prompted-all : (t : ℕ) (f : Option ℕ) (o : Object) → P o → P (prompted t f o)
-  unfolding prompted
-  prompted-all t f o v = elim (is t o) as (λ b. P (if b then living (triggered f (o .life)) o else o)) [ true ↦ stable (triggered f (o .life)) o v | false ↦ v ]
+  touched-all : (t : ℕ) (x : Touch) (h : Hand) → P (h .object) → P (touched-hand t x h .object)
+  touched-all t x h v = let k = touched-hand-kept t x h in subst P (sym (k .object)) (stable (k .life) (h .object) v)
 
   -- every call keeps it, if what an add admits has it
   pub everywhere-step : (s : Setup) (d : Desk) (c : Call)
       → ((named : Option ℕ) (q : Request) → c ≡ Call.add named q → add-refusal s d named q ≡ none → P (made s (toi-for d named) q))
       → Everywhere P d → Everywhere P (step s d c .1)
-  unfolding step numbered moved removed ran unloosed fdt-ran fdt-queued
+  unfolding step numbered moved touched ran unloosed fdt-ran fdt-queued
   everywhere-step s d Call.reserve k u = go (reserve-refusal d)
     where
       go : (x : Option Refusal) → Everywhere P (unless x d (Answer.number (d .next), reserved s d) .1)
@@ -141,13 +137,11 @@ module _ (P : Object → Type 0) (stable : (x : Life) (o : Object) → P o → P
       go : (x : Option Refusal) → add-refusal s d named q ≡ x → Everywhere P (unless x d (Answer.number (toi-for d named), admitted s (toi-for d named) q (if given named then d else reserved s d)) .1)
       go none e = admitted-all s (toi-for d named) q (if given named then d else reserved s d) (k named q refl e) (maybe-all s d named u)
       go (some n) e = u
-  everywhere-step s d (Call.remove t) k u = record {
-    waiting = each-keep P (λ o. not (is t o)) (d .queue) (u .waiting);
-    serving = each-map (λ (x : Session). InHand P (x .hand)) (in-hand (unlisted t)) (in-hand-all (unlisted t) (unlisted-all t)) (d .sessions) (u .serving);
+  everywhere-step s d (Call.touch t x) k u = record {
+    waiting = each-touched (touched-waiting t x) (touched-kept t x) P stable (d .queue) (u .waiting);
+    serving = each-map (λ (x : Session). InHand P (x .hand)) (in-hand (touched-hand t x)) (in-hand-all (touched-hand t x) (touched-all t x)) (d .sessions) (u .serving);
   }
-  everywhere-step s d (Call.trigger t f) k u = record { waiting = each-map P (prompted t f) (prompted-all t f) (d .queue) (u .waiting); serving = u .serving }
-  everywhere-step s d (Call.listed t) k u = u
-  everywhere-step s d (Call.transfers t) k u = u
+  everywhere-step s d (Call.ask q) k u = u
   everywhere-step s d Call.complete k u = record { waiting = u .waiting; serving = u .serving }
   everywhere-step s d (Call.publish now c) k u = go (publish-refusal s (d .fdt) c)
     where
@@ -160,7 +154,7 @@ module _ (P : Object → Type 0) (stable : (x : Life) (o : Object) → P o → P
       go none r = elim (r .taken) as (λ t. Everywhere P (if t then all-published (with-fdt d (r .fdt)) else with-fdt d (r .fdt)))
           [ true ↦ marked-all (with-fdt d (r .fdt)) (fdt-all d (r .fdt) u) | false ↦ fdt-all d (r .fdt) u ]
       go (some n) r = u
-  everywhere-step s d (Call.run-file now i) k u = go (at (d .sessions) i) refl
+  everywhere-step s d (Call.run-file i now) k u = go (at (d .sessions) i) refl
     where
       go : (x : Option Session) → at (d .sessions) i ≡ x → Everywhere P (maybe (Answer.refused Because.NoSession, d) (ran s now i d) x .1)
       go none e = u

@@ -21,7 +21,7 @@ use Rattle.lifecycle.specs.Fdt.{Instance, FdtState, Next, fdt-plan, fdt-parts, 
 use Rattle.definition.specs.Encoder.{Symbol, fresh, read}
 use Rattle.definition.specs.FdtSession.{Fdt, FdtHand, FdtTurn, fdt-published, fdt-send, fdt-attempt, fdt-idle, fdt-run}
 use Rattle.definition.specs.Session.{Session}
-use Rattle.definition.specs.Desk.{Desk, Call, Answer, opening, moved, numbered, with-fdt, all-published, removed, reserved, admitted, not-loose, full, reserve-refusal, release-refusal, add-refusal, publish-refusal, draft-refusal, draft-of, ran, fdt-ran, step}
+use Rattle.definition.specs.Desk.{Desk, Call, Answer, opening, moved, numbered, with-fdt, all-published, reserved, admitted, not-loose, full, reserve-refusal, release-refusal, add-refusal, publish-refusal, draft-refusal, draft-of, ran, fdt-ran, step, touched}
 use Rattle.definition.specs.TotalPromises.{IfGiven, FdtPart, Matched, nothing, resting, sending, FdtReachable}
 use Rattle.definition.proofs.Refused.{either, kept}
 use Rattle.definition.proofs.Weights.{total, total-append}
@@ -399,22 +399,20 @@ ran-kept s now draft f k u = record {
     apart n = going (cover n) 1 (covers n draft k)
 
 pub fdt-step : (s : Setup) (d : Desk) (c : Call) → FdtReachable s (d .fdt) → FdtReachable s (step s d c .1 .fdt)
-unfolding step reserved numbered moved removed admitted all-published with-fdt ran fdt-ran
+unfolding step reserved numbered moved touched admitted all-published with-fdt ran fdt-ran
 fdt-step s d Call.reserve u = kept (λ e. FdtReachable s (e .fdt)) (reserve-refusal d) d _ u (λ e. u)
 fdt-step s d (Call.release t) u = kept (λ e. FdtReachable s (e .fdt)) (release-refusal d t) d _ u (λ e. u)
 fdt-step s d (Call.add named q) u = kept (λ e. FdtReachable s (e .fdt)) (add-refusal s d named q) d _ u
     (λ e. either (λ (x : Desk). FdtReachable s (x .fdt)) (given named) d (reserved s d) u u)
-fdt-step s d (Call.remove t) u = u
-fdt-step s d (Call.trigger t f) u = u
-fdt-step s d (Call.listed t) u = u
-fdt-step s d (Call.transfers t) u = u
+fdt-step s d (Call.touch t x) u = u
+fdt-step s d (Call.ask q) u = u
 fdt-step s d Call.complete u = u
 fdt-step s d (Call.publish now c) u = kept (λ e. FdtReachable s (e .fdt)) (publish-refusal s (d .fdt) c) d _ u (λ e. published-kept s now c (d .fdt) e u)
 fdt-step s d (Call.run-fdt now draft) u = kept (λ e. FdtReachable s (e .fdt)) (draft-refusal s (d .fdt) draft) d _ u (λ e.
     let r = fdt-run s now (draft-of draft) (d .fdt) in
     let v = ran-kept s now (draft-of draft) (d .fdt) (draft-fits s (d .fdt) draft e) u in
     either (λ (x : Desk). FdtReachable s (x .fdt)) (r .taken) (all-published (with-fdt d (r .fdt))) (with-fdt d (r .fdt)) v v)
-fdt-step s d (Call.run-file now i) u = go (at (d .sessions) i)
+fdt-step s d (Call.run-file i now) u = go (at (d .sessions) i)
   where
     go : (x : Option Session) → FdtReachable s (maybe (Answer.refused Because.NoSession, d) (ran s now i d) x .1 .fdt)
     go none = u

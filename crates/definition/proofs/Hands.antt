@@ -1,5 +1,5 @@
 -- What sessions have in hand: at most a window of open blocks, and an object of the session's priority. The sessions stay those of the set-up.
-use mathlib.Core.Path.{_≡_, refl, ap}
+use mathlib.Core.Path.{_≡_, refl, ap, subst, sym, _∙_}
 use mathlib.Core.Bool.{Bool, true, false, not, _||_}
 use mathlib.Core.Option.{Option, none, some}
 use mathlib.Core.List.{List, [], _∷_, map}
@@ -21,9 +21,10 @@ use Rattle.lifecycle.specs.Setup.{Setup}
 use Rattle.definition.specs.Encoder.{Open, Encoder, Symbol, opened, drained, fill, wrapped, emptied, without, advanced, symbol-of, visit, stopping, read}
 use Rattle.definition.specs.FdtSession.{fdt-published, fdt-run}
 use Rattle.definition.specs.Session.{Object, Hand, Session, startable, begin, put-back, forced, Turn, idle, sent, serve, go-on, take-on, file-run}
-use Rattle.definition.specs.Desk.{Desk, Call, Answer, opening, is, moved, numbered, with-fdt, in-hand, marked, marked-hand, all-published, unlisted, removed, reserved, admitted, not-loose, full, reserve-refusal, release-refusal, add-refusal, publish-refusal, draft-refusal, draft-of, ran, fdt-queued, fdt-ran, step}
+use Rattle.definition.specs.Desk.{Desk, Call, Answer, opening, is, moved, numbered, with-fdt, in-hand, marked, marked-hand, all-published, reserved, admitted, not-loose, full, reserve-refusal, release-refusal, add-refusal, publish-refusal, draft-refusal, draft-of, ran, fdt-queued, fdt-ran, step, Touch, touched-hand, touched}
 use Rattle.definition.specs.TotalPromises.{IfGiven, InHands}
 use Rattle.definition.proofs.Refused.{either, kept}
+use Rattle.definition.proofs.Touches.{touched-hand-kept}
 
 -- ---- the window of an encoder
 
@@ -139,23 +140,22 @@ published-served s d u = in-hand-served s marked-hand one (d .sessions) u
     one : (p : ℕ) (h : Hand) → InHands s p h → InHands s p (marked-hand h)
     one p h v = either (InHands s p) (h .listed) _ h (record { priority = v .priority; window = v .window }) v
 
-unlisted-hand : (s : Setup) (t p : ℕ) (h : Hand) → InHands s p h → InHands s p (unlisted t h)
-unfolding unlisted
-unlisted-hand s t p h v = either (InHands s p) (is t (h .object)) _ h (record { priority = v .priority; window = v .window }) v
+touched-in-hand : (s : Setup) (t : ℕ) (x : Touch) (p : ℕ) (h : Hand) → InHands s p h → InHands s p (touched-hand t x h)
+touched-in-hand s t x p h v =
+    let k = touched-hand-kept t x h in
+    record { priority = ap (λ (o : Object). o .priority) (k .object) ∙ v .priority; window = subst (λ (e : Encoder). length (e .window) ≤ s .window) (sym (k .encoder)) (v .window) }
 
 stays : (s : Setup) (l : List Session) → HandsKept s l → Served s l l
 stays s l u = record { hands = u; same = refl }
 
 served-step : (s : Setup) (d : Desk) (c : Call) → HandsKept s (d .sessions) → Served s (d .sessions) (step s d c .1 .sessions)
-unfolding step reserved numbered moved removed admitted with-fdt ran fdt-ran
+unfolding step reserved numbered moved touched admitted with-fdt ran fdt-ran
 served-step s d Call.reserve u = kept (λ e. Served s (d .sessions) (e .sessions)) (reserve-refusal d) d _ (stays s (d .sessions) u) (λ e. stays s (d .sessions) u)
 served-step s d (Call.release t) u = kept (λ e. Served s (d .sessions) (e .sessions)) (release-refusal d t) d _ (stays s (d .sessions) u) (λ e. stays s (d .sessions) u)
 served-step s d (Call.add named q) u = kept (λ e. Served s (d .sessions) (e .sessions)) (add-refusal s d named q) d _ (stays s (d .sessions) u)
     (λ e. either (λ (x : Desk). Served s (d .sessions) (x .sessions)) (given named) d (reserved s d) (stays s (d .sessions) u) (stays s (d .sessions) u))
-served-step s d (Call.remove t) u = in-hand-served s (unlisted t) (unlisted-hand s t) (d .sessions) u
-served-step s d (Call.trigger t f) u = stays s (d .sessions) u
-served-step s d (Call.listed t) u = stays s (d .sessions) u
-served-step s d (Call.transfers t) u = stays s (d .sessions) u
+served-step s d (Call.touch t x) u = in-hand-served s (touched-hand t x) (touched-in-hand s t x) (d .sessions) u
+served-step s d (Call.ask q) u = stays s (d .sessions) u
 served-step s d Call.complete u = stays s (d .sessions) u
 served-step s d (Call.publish now c) u = kept (λ e. Served s (d .sessions) (e .sessions)) (publish-refusal s (d .fdt) c) d _ (stays s (d .sessions) u)
     (λ e. published-served s (with-fdt d (fdt-published now c (d .fdt))) u)
@@ -164,7 +164,7 @@ served-step s d (Call.run-fdt now draft) u =
     kept (λ e. Served s (d .sessions) (e .sessions)) (draft-refusal s (d .fdt) draft) d _ (stays s (d .sessions) u)
     (λ e. either (λ (x : Desk). Served s (d .sessions) (x .sessions)) (r .taken) (all-published (with-fdt d (r .fdt))) (with-fdt d (r .fdt))
     (published-served s (with-fdt d (r .fdt)) u) (stays s (d .sessions) u))
-served-step s d (Call.run-file now i) u = go (at (d .sessions) i) refl
+served-step s d (Call.run-file i now) u = go (at (d .sessions) i) refl
   where
     go : (x : Option Session) → at (d .sessions) i ≡ x → Served s (d .sessions) (maybe (Answer.refused Because.NoSession, d) (ran s now i d) x .1 .sessions)
     go none e = stays s (d .sessions) u

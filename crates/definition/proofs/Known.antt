@@ -15,12 +15,13 @@ use Rattle.lifecycle.specs.Lifecycle.{triggered, too-early, expired, finished, 
 use Rattle.lifecycle.specs.Setup.{Setup}
 use Rattle.definition.specs.FdtSession.{Fdt, FdtTurn, Packet, fdt-published, fdt-run}
 use Rattle.definition.specs.Session.{Object, Hand, Session, living, startable, begin, put-back, forced, Turn, idle, sent, serve, go-on, take-on, file-run}
-use Rattle.definition.specs.Desk.{Desk, Request, Call, Answer, opening, is, moved, numbered, with-fdt, in-hand, marked, marked-hand, all-published, unlisted, removed, prompted, reserved, toi-for, made, admitted, not-loose, full, reserve-refusal, release-refusal, add-refusal, publish-refusal, draft-refusal, draft-of, unless, ran, step, unloosed, fdt-queued, fdt-ran}
+use Rattle.definition.specs.Desk.{Desk, Request, Call, Answer, opening, is, moved, numbered, with-fdt, in-hand, marked, marked-hand, all-published, reserved, toi-for, made, admitted, not-loose, full, reserve-refusal, release-refusal, add-refusal, publish-refusal, draft-refusal, draft-of, unless, ran, step, unloosed, fdt-queued, fdt-ran, Touch, touched-waiting, touched-hand, touched}
 use Rattle.definition.specs.Apart.{mine, noted}
 use Rattle.definition.proofs.View.{retag, seen, seen-append, seen-other}
 use Rattle.sizes.specs.Words.{Each}
 use Rattle.sizes.proofs.Tests.{and-left}
 use Rattle.sizes.proofs.Lists.{each-append, each-keep, each-drop-first, each-map, each-set, each-find, each-at, each-imp, found}
+use Rattle.definition.proofs.Touches.{touched-kept, touched-hand-kept, each-touched}
 
 -- the number of the priority's object is among those that admissions got
 abbrev pub Noted : ℕ → List ℕ → Object → Type 0
@@ -157,15 +158,8 @@ marked-held-same h = elim (h .listed) as (λ t. (((if t then record { object = m
     × ((if t then record { object = marked (h .object); listed = true; encoder = h .encoder; pace = h .pace } else h) .object .toi ≡ h .object .toi)))
     [ true ↦ (refl, refl) | false ↦ (refl, refl) ]
 
-unlisted-same : (t : ℕ) (h : Hand) → (unlisted t h .object .priority ≡ h .object .priority) × (unlisted t h .object .toi ≡ h .object .toi)
-unfolding unlisted
-unlisted-same t h = elim (is t (h .object)) as (λ b. (((if b then record { object = h .object; listed = false; encoder = h .encoder; pace = h .pace } else h) .object .priority ≡ h .object .priority)
-    × ((if b then record { object = h .object; listed = false; encoder = h .encoder; pace = h .pace } else h) .object .toi ≡ h .object .toi)))
-    [ true ↦ (refl, refl) | false ↦ (refl, refl) ]
-
-prompted-known : (p : ℕ) (j : List ℕ) (t : ℕ) (f : Option ℕ) (o : Object) → Noted p j o → Noted p j (prompted t f o)
-unfolding prompted
-prompted-known p j t f o u = elim (is t o) as (λ b. Noted p j (if b then living (triggered f (o .life)) o else o)) [ true ↦ u | false ↦ u ]
+touched-same : (t : ℕ) (x : Touch) (h : Hand) → (touched-hand t x h .object .priority ≡ h .object .priority) × (touched-hand t x h .object .toi ≡ h .object .toi)
+touched-same t x h = let k = touched-hand-kept t x h in (ap (λ (o : Object). o .priority) (k .object), ap (λ (o : Object). o .toi) (k .object))
 
 published-known : (p : ℕ) (j : List ℕ) (d : Desk) → Known p j d → Known p j (all-published d)
 unfolding all-published moved marked
@@ -223,7 +217,7 @@ ran-known p j s now i d x e u =
 
 -- every call keeps it
 pub known-step : (p : ℕ) (j : List ℕ) (s : Setup) (d : Desk) (c : Call) → Known p j d → Known p (noted p c (step s d c .0) j) (step s d c .1)
-unfolding step numbered moved removed unloosed fdt-ran
+unfolding step numbered moved touched unloosed fdt-ran
 known-step p j s d Call.reserve u = go (reserve-refusal d)
   where
     go : (x : Option Refusal) → Known p j (unless x d (Answer.number (d .next), reserved s d) .1)
@@ -240,13 +234,11 @@ known-step p j s d (Call.add named q) u = go (add-refusal s d named q)
         (unless x d (Answer.number (toi-for d named), admitted s (toi-for d named) q (if given named then d else reserved s d)) .1)
     go none = add-known p j s (toi-for d named) q d named u
     go (some n) = u
-known-step p j s d (Call.remove t) u = record {
-  waiting = each-keep (Noted p j) (λ o. not (is t o)) (d .queue) (u .waiting);
-  serving = each-map (Fits p j) (in-hand (unlisted t)) (in-hand-known p j (unlisted t) (unlisted-same t)) (d .sessions) (u .serving);
+known-step p j s d (Call.touch t x) u = record {
+  waiting = each-touched (touched-waiting t x) (touched-kept t x) (Noted p j) (λ l o v. v) (d .queue) (u .waiting);
+  serving = each-map (Fits p j) (in-hand (touched-hand t x)) (in-hand-known p j (touched-hand t x) (touched-same t x)) (d .sessions) (u .serving);
 }
-known-step p j s d (Call.trigger t f) u = record { waiting = each-map (Noted p j) (prompted t f) (prompted-known p j t f) (d .queue) (u .waiting); serving = u .serving }
-known-step p j s d (Call.listed t) u = u
-known-step p j s d (Call.transfers t) u = u
+known-step p j s d (Call.ask q) u = u
 known-step p j s d Call.complete u = record { waiting = u .waiting; serving = u .serving }
 known-step p j s d (Call.publish now c) u = go (publish-refusal s (d .fdt) c)
   where
@@ -259,7 +251,7 @@ known-step p j s d (Call.run-fdt now draft) u = go (draft-refusal s (d .fdt) dra
     go none r = elim (r .taken) as (λ t. Known p j (if t then all-published (with-fdt d (r .fdt)) else with-fdt d (r .fdt)))
         [ true ↦ published-known p j (with-fdt d (r .fdt)) (with-fdt-known p j d (r .fdt) u) | false ↦ with-fdt-known p j d (r .fdt) u ]
     go (some n) r = u
-known-step p j s d (Call.run-file now i) u = go (at (d .sessions) i) refl
+known-step p j s d (Call.run-file i now) u = go (at (d .sessions) i) refl
   where
     go : (x : Option Session) → at (d .sessions) i ≡ x → Known p j (maybe (Answer.refused Because.NoSession, d) (ran s now i d) x .1)
     go none e = u

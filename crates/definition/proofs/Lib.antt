@@ -12,6 +12,7 @@ pub mod Hands
 pub mod FdtSide
 pub mod Reachable
 pub mod View
+pub mod Touches
 pub mod Known
 pub mod ApartLaws
 pub mod Alone

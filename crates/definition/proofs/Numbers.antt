@@ -19,9 +19,9 @@ use Rattle.lifecycle.specs.declared.parts.Part.{Part}
 use Rattle.lifecycle.specs.Setup.{Setup, bad-blocks}
 use Rattle.definition.specs.FdtSession.{fdt-run}
 use Rattle.definition.specs.Session.{Object, Session}
-use Rattle.definition.specs.Desk.{Desk, Request, Call, Answer, opening, objects, numbers, moved, numbered, with-fdt, all-published, removed, reserved, unloosed, toi-for, own-sizes, made, admitted, no-session, bad-object-part, not-loose, full, no-room, reserve-refusal, release-refusal, add-refusal, publish-refusal, draft-refusal, draft-of, Result, ran, fdt-ran, step}
+use Rattle.definition.specs.Desk.{Desk, Request, Call, Answer, opening, objects, numbers, moved, numbered, with-fdt, all-published, reserved, unloosed, toi-for, own-sizes, made, admitted, no-session, bad-object-part, not-loose, full, no-room, reserve-refusal, release-refusal, add-refusal, publish-refusal, draft-refusal, draft-of, Result, ran, fdt-ran, step, touched}
 use Rattle.definition.specs.Apart.{adding, number-in}
-use Rattle.definition.proofs.Refused.{either, kept, settled}
+use Rattle.definition.proofs.Refused.{plain, either, kept, settled}
 use Rattle.definition.proofs.Weights.{total, total-append, total-keep, total-over, total-times, total-length, total-admitted, none-yet, lighter}
 pub use Rattle.definition.specs.TotalPromises.{Unique, Given, HeldFrom}
 
@@ -132,7 +132,7 @@ same-loose s d c k l n = no-more n (λ v.
     let f = ap (total v) l in omega arith)
 
 change : (s : Setup) (d : Desk) (c : Call) → Change s d (step s d c)
-unfolding step reserve-refusal reserved numbered moved removed admitted all-published with-fdt ran fdt-ran toi-for unloosed objects
+unfolding step reserve-refusal reserved numbered moved touched admitted all-published with-fdt ran fdt-ran toi-for unloosed objects
 change s d Call.reserve = settled (Change s d) (reserve-refusal d) d _ (λ n. no-more refl (λ v. omega arith))
     (λ e. one-more refl (first-none Because.Full (full d) [] e .0) refl (λ v. let h = reserved-numbers s d v in omega arith))
 change s d (Call.release t) = settled (Change s d) (release-refusal d t) d _ (λ n. no-more refl (λ v. omega arith)) (λ e. no-more refl (λ v.
@@ -143,10 +143,8 @@ change s d (Call.add none q) = settled (Change s d) (add-refusal s d none q) d _
     (λ e. one-more refl (room d none (admissible s d none q e .has-room) .1) refl (λ v. let a = admitted-numbers s (d .next) q (reserved s d) (reserved-has s d) v in let b = reserved-numbers s d v in omega arith))
 change s d (Call.add (some t) q) = settled (Change s d) (add-refusal s d (some t) q) d _ (λ n. no-more refl (λ v. omega arith))
     (λ e. no-more refl (admitted-numbers s t q d (loose-true s d t q e)))
-change s d (Call.remove t) = same-loose s d (Call.remove t) refl refl refl
-change s d (Call.trigger t f) = same-loose s d (Call.trigger t f) refl refl refl
-change s d (Call.listed t) = same-loose s d (Call.listed t) refl refl refl
-change s d (Call.transfers t) = same-loose s d (Call.transfers t) refl refl refl
+change s d (Call.touch t x) = same-loose s d (Call.touch t x) refl refl refl
+change s d (Call.ask q) = same-loose s d (Call.ask q) refl refl refl
 change s d Call.complete = same-loose s d Call.complete refl refl refl
 change s d (Call.publish now c) = same-loose s d (Call.publish now c) refl
     (kept (λ e. e .loose ≡ d .loose) (publish-refusal s (d .fdt) c) d _ refl (λ e. refl)) (kept (λ e. e .next ≡ d .next) (publish-refusal s (d .fdt) c) d _ refl (λ e. refl))
@@ -155,7 +153,7 @@ change s d (Call.run-fdt now draft) =
     same-loose s d (Call.run-fdt now draft) refl
     (kept (λ e. e .loose ≡ d .loose) (draft-refusal s (d .fdt) draft) d _ refl (λ e. either (λ (x : Desk). x .loose ≡ d .loose) t _ _ refl refl))
     (kept (λ e. e .next ≡ d .next) (draft-refusal s (d .fdt) draft) d _ refl (λ e. either (λ (x : Desk). x .next ≡ d .next) t _ _ refl refl))
-change s d (Call.run-file now i) = same-loose s d (Call.run-file now i) refl (loose (at (d .sessions) i)) (next (at (d .sessions) i))
+change s d (Call.run-file i now) = same-loose s d (Call.run-file i now) refl (loose (at (d .sessions) i)) (next (at (d .sessions) i))
   where
     loose : (x : Option Session) → maybe (Answer.refused Because.NoSession, d) (ran s now i d) x .1 .loose ≡ d .loose
     loose none = refl
@@ -241,18 +239,16 @@ given-once s d (Call.add (some v) q) t u = settled (λ r. r .0 ≡ Answer.number
   where
     named : add-refusal s d (some v) q ≡ none → v ≡ t → Given d (Call.add (some v) q) t
     named x e = Given.by-name q (ap (λ w. Call.add (some w) q) e) (subst (λ w. has w (d .loose) ≡ true) e (loose-true s d v q x))
-given-once s d (Call.remove v) t u = not-given _ t refl
-given-once s d (Call.trigger v f) t u = not-given _ t refl
-given-once s d (Call.listed v) t u = not-given _ t refl
-given-once s d (Call.transfers v) t u = not-given _ t refl
+given-once s d (Call.touch v x) t u = not-given _ t refl
+given-once s d (Call.ask q) t u = not-given _ t (plain d q .0)
 given-once s d Call.complete t u = not-given _ t refl
 given-once s d (Call.publish now c) t u = settled (λ r. r .0 ≡ Answer.number t → Given d (Call.publish now c) t) (publish-refusal s (d .fdt) c) d _
     (λ n. not-given (Answer.refused n) t refl) (λ x. not-given Answer.done t refl)
 given-once s d (Call.run-fdt now draft) t u = settled (λ r. r .0 ≡ Answer.number t → Given d (Call.run-fdt now draft) t) (draft-refusal s (d .fdt) draft) d _
     (λ n. not-given (Answer.refused n) t refl) (λ x. not-given _ t refl)
-given-once s d (Call.run-file now i) t u = go (at (d .sessions) i)
+given-once s d (Call.run-file i now) t u = go (at (d .sessions) i)
   where
-    go : (x : Option Session) → maybe (Answer.refused Because.NoSession, d) (ran s now i d) x .0 ≡ Answer.number t → Given d (Call.run-file now i) t
+    go : (x : Option Session) → maybe (Answer.refused Because.NoSession, d) (ran s now i d) x .0 ≡ Answer.number t → Given d (Call.run-file i now) t
     go none = not-given _ t refl
     go (some x) = not-given _ t refl
 

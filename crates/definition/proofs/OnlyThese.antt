@@ -15,8 +15,8 @@ use Rattle.lifecycle.specs.Setup.{Setup, sound}
 use Rattle.sizes.specs.Limits.{toi-entries, object-slots}
 use Rattle.definition.specs.FdtSession.{FdtTurn, fdt-published, fdt-run}
 use Rattle.definition.specs.Session.{Session}
-use Rattle.definition.specs.Desk.{Desk, Request, Call, Answer, opening, objects, numbers, moved, numbered, with-fdt, all-published, removed, reserved, toi-for, admitted, not-loose, full, no-room, reserve-refusal, release-refusal, add-refusal, publish-refusal, draft-refusal, draft-of, Result, unless, ran, step, unloosed, fdt-ran}
-use Rattle.definition.specs.Apart.{owns, about, noted, key, call-by, answer-by, turned-away, calls, smooth, accepted, ends, adds, look, through, tie, claims, reserves, asks-loose, only, Alike, lone, Only, Demand-3}
+use Rattle.definition.specs.Desk.{Desk, Request, Call, Answer, opening, objects, numbers, moved, numbered, with-fdt, all-published, reserved, toi-for, admitted, not-loose, full, no-room, reserve-refusal, release-refusal, add-refusal, publish-refusal, draft-refusal, draft-of, Result, unless, ran, step, unloosed, fdt-ran, Question, touched, answer-to}
+use Rattle.definition.specs.Apart.{owns, about, noted, key, call-by, answer-by, turned-away, calls, smooth, accepted, ends, adds, look, through, tie, claims, reserves, asks-loose, only, Alike, lone, Only, Demand-3, about-question, question-by, number-in}
 use Rattle.lifecycle.proofs.SetupLaws.{told}
 use Rattle.definition.proofs.Numbers.{Unique, unique-step, tois, times-without, admissible, loose-true}
 use Rattle.definition.proofs.Known.{Known, known-step, known-opening}
@@ -24,6 +24,7 @@ use Rattle.definition.proofs.ApartLaws.{got, add-result, alike, hidden,
 use Rattle.definition.proofs.Alone.{Rel, carried, session-there, fewer-there, slots-there, length-tois, add-there, noted-hidden, rel-hidden, both, rel-shown, rel-opening}
 use Rattle.sizes.proofs.Tests.{Tested, pass, fail, tested, and-left, and-right, or-left, or-right, none≢some}
 use Rattle.sizes.proofs.Lists.{map-append, times-append, has-times, times-has}
+use Rattle.definition.proofs.Refused.{plain}
 
 -- lists of numbers
 eqb-sym : (a b : ℕ) → eqb a b ≡ eqb b a
@@ -157,14 +158,12 @@ abbrev quiet : Call → Bool
 quiet Call.reserve = false
 quiet (Call.release t) = false
 quiet (Call.add named q) = false
-quiet (Call.remove t) = true
-quiet (Call.trigger t f) = true
-quiet (Call.listed t) = true
-quiet (Call.transfers t) = true
+quiet (Call.touch t x) = true
+quiet (Call.ask q) = true
 quiet Call.complete = true
 quiet (Call.publish now c) = true
 quiet (Call.run-fdt now draft) = true
-quiet (Call.run-file now i) = true
+quiet (Call.run-file i now) = true
 
 -- what such a call leaves
 record Quiet (s : Setup) (p : ℕ) (d : Desk) (c : Call) : Type 0 where
@@ -173,15 +172,17 @@ record Quiet (s : Setup) (p : ℕ) (d : Desk) (c : Call) : Type 0 where
   no-tie : (a : Answer) (m : List (ℕ × ℕ)) → tie (step s d c .0) a m ≡ m
   no-note : (j : List ℕ) → noted p c (step s d c .0) j ≡ j
 
+-- an answer without a number ties nothing
+untied : (a b : Answer) (m : List (ℕ × ℕ)) → number-in a ≡ none → tie a b m ≡ m
+untied a b m h = ap (λ x. maybe m (λ t. maybe m (λ u. (t, u) ∷ m) (number-in b)) x) h
+
 quieted : (s : Setup) (p : ℕ) (d : Desk) (c : Call) → quiet c ≡ true → Quiet s p d c
-unfolding step removed moved with-fdt all-published ran fdt-ran
+unfolding step touched moved with-fdt all-published ran fdt-ran
 quieted s p d Call.reserve e = absurd (false≢true e)
 quieted s p d (Call.release t) e = absurd (false≢true e)
 quieted s p d (Call.add named q) e = absurd (false≢true e)
-quieted s p d (Call.remove t) e = record { same-loose = refl; no-end = λ t. refl; no-tie = λ a m. refl; no-note = λ j. refl }
-quieted s p d (Call.trigger t f) e = record { same-loose = refl; no-end = λ t. refl; no-tie = λ a m. refl; no-note = λ j. refl }
-quieted s p d (Call.listed t) e = record { same-loose = refl; no-end = λ t. refl; no-tie = λ a m. refl; no-note = λ j. refl }
-quieted s p d (Call.transfers t) e = record { same-loose = refl; no-end = λ t. refl; no-tie = λ a m. refl; no-note = λ j. refl }
+quieted s p d (Call.touch t x) e = record { same-loose = refl; no-end = λ t. refl; no-tie = λ a m. refl; no-note = λ j. refl }
+quieted s p d (Call.ask q) e = record { same-loose = refl; no-end = λ t. refl; no-tie = λ a m. untied (answer-to d q) a m (plain d q .0); no-note = λ j. refl }
 quieted s p d Call.complete e = record { same-loose = refl; no-end = λ t. refl; no-tie = λ a m. refl; no-note = λ j. refl }
 quieted s p d (Call.publish now c) e = record { same-loose = go (publish-refusal s (d .fdt) c); no-end = λ t. refl; no-tie = to (publish-refusal s (d .fdt) c); no-note = λ j. refl }
   where
@@ -212,7 +213,7 @@ quieted s p d (Call.run-fdt now draft) e = record {
     to : (x : Option Refusal) (r : FdtTurn) (a : Answer) (m : List (ℕ × ℕ)) → tie (unless x d (result r) .0) a m ≡ m
     to none r a m = refl
     to (some n) r a m = refl
-quieted s p d (Call.run-file now i) e = record { same-loose = go (at (d .sessions) i); no-end = λ t. refl; no-tie = to (at (d .sessions) i); no-note = λ j. refl }
+quieted s p d (Call.run-file i now) e = record { same-loose = go (at (d .sessions) i); no-end = λ t. refl; no-tie = to (at (d .sessions) i); no-note = λ j. refl }
   where
     go : (x : Option Session) → maybe (Answer.refused Because.NoSession, d) (ran s now i d) x .1 .loose ≡ d .loose
     go none = refl
@@ -226,14 +227,12 @@ quiet-through : (m : List (ℕ × ℕ)) (c : Call) → quiet c ≡ true → quie
 quiet-through m Call.reserve e = e
 quiet-through m (Call.release t) e = e
 quiet-through m (Call.add named q) e = e
-quiet-through m (Call.remove t) e = e
-quiet-through m (Call.trigger t f) e = e
-quiet-through m (Call.listed t) e = e
-quiet-through m (Call.transfers t) e = e
+quiet-through m (Call.touch t x) e = e
+quiet-through m (Call.ask q) e = e
 quiet-through m Call.complete e = e
 quiet-through m (Call.publish now c) e = e
 quiet-through m (Call.run-fdt now draft) e = e
-quiet-through m (Call.run-file now i) e = e
+quiet-through m (Call.run-file i now) e = e
 
 claimed-quiet : (s : Setup) (p : ℕ) (d : Desk) (c : Call) (l : List Call) → Quiet s p d c → claimed s p (step s d c .1) l ≡ claimed s p d (c ∷ l)
 unfolding claims
@@ -297,14 +296,12 @@ claimed-other s p d (Call.add (some v) q) l u a h = go (add-refusal s d (some v)
     go : (x : Option Refusal) → Then s p l (unless x d (add-result s d (some v) q)) ≡ Before s p d (Call.add (some v) q) l (unless x d (add-result s d (some v) q))
     go none = rw a (ap (keep (λ t. claims s p t (admitted s v q d) l)) (named-loose s d v q) ∙ keep-ended (λ t. claims s p t (admitted s v q d) l) v (d .loose))
     go (some n) = refl
-claimed-other s p d (Call.remove t) l u a h = claimed-quiet s p d (Call.remove t) l (quieted s p d (Call.remove t) refl)
-claimed-other s p d (Call.trigger t f) l u a h = claimed-quiet s p d (Call.trigger t f) l (quieted s p d (Call.trigger t f) refl)
-claimed-other s p d (Call.listed t) l u a h = claimed-quiet s p d (Call.listed t) l (quieted s p d (Call.listed t) refl)
-claimed-other s p d (Call.transfers t) l u a h = claimed-quiet s p d (Call.transfers t) l (quieted s p d (Call.transfers t) refl)
+claimed-other s p d (Call.touch t x) l u a h = claimed-quiet s p d (Call.touch t x) l (quieted s p d (Call.touch t x) refl)
+claimed-other s p d (Call.ask q) l u a h = claimed-quiet s p d (Call.ask q) l (quieted s p d (Call.ask q) refl)
 claimed-other s p d Call.complete l u a h = claimed-quiet s p d Call.complete l (quieted s p d Call.complete refl)
 claimed-other s p d (Call.publish now c) l u a h = claimed-quiet s p d (Call.publish now c) l (quieted s p d (Call.publish now c) refl)
 claimed-other s p d (Call.run-fdt now draft) l u a h = claimed-quiet s p d (Call.run-fdt now draft) l (quieted s p d (Call.run-fdt now draft) refl)
-claimed-other s p d (Call.run-file now i) l u a h = claimed-quiet s p d (Call.run-file now i) l (quieted s p d (Call.run-file now i) refl)
+claimed-other s p d (Call.run-file i now) l u a h = claimed-quiet s p d (Call.run-file i now) l (quieted s p d (Call.run-file i now) refl)
 
 -- the full desk, and the desk on which only these calls were made, with the ties between their numbers
 record RelO (s : Setup) (p : ℕ) (j : List ℕ) (d : Desk) (i : List ℕ) (e : Desk) (m : List (ℕ × ℕ)) (C : List ℕ) : Type 0 where
@@ -414,6 +411,18 @@ unowned-there s p j d i e m f t o h = go (tested (owns p e (look m t)))
     go (pass z) = absurd (true≢false (sym (loose-there s p j d i e m f t o h) ∙ owned-not-loose s p e (look m t) (o .rel .unique′) z))
     go (fail z) = z
 
+-- and it has its like there
+same-there : (s : Setup) (p : ℕ) (j : List ℕ) (d : Desk) (i : List ℕ) (e : Desk) (m : List (ℕ × ℕ)) (f : ℕ → Bool) (t : ℕ)
+    → RelO s p j d i e m (keep f (d .loose)) → owns p d t ≡ true → (owns p e (look m t) ≡ true) × (key i (look m t) ≡ key j t)
+same-there s p j d i e m f t o a = let z = owned-tied s p j d i e m f t o a in let y = carried s p j d i e t (o .rel) a in
+    (subst (λ n. owns p e n ≡ true) (sym z) (y .0), ap (key i) z ∙ y .1)
+
+question-there : (s : Setup) (p : ℕ) (j : List ℕ) (d : Desk) (i : List ℕ) (e : Desk) (m : List (ℕ × ℕ)) (f : ℕ → Bool) (q : Question)
+    → RelO s p j d i e m (keep f (d .loose)) → about-question p d q ≡ true
+    → (about-question p e (question-by (look m) q) ≡ true) × (Call.ask (question-by (key i) (question-by (look m) q)) ≡ Call.ask (question-by (key j) q))
+question-there s p j d i e m f (Question.listed t) o a = let z = same-there s p j d i e m f t o a in (z .0, ap (λ n. Call.ask (Question.listed n)) (z .1))
+question-there s p j d i e m f (Question.transfers t) o a = let z = same-there s p j d i e m f t o a in (z .0, ap (λ n. Call.ask (Question.transfers n)) (z .1))
+
 -- a call of the priority and its like there
 like-there : (s : Setup) (p : ℕ) (j : List ℕ) (d : Desk) (i : List ℕ) (e : Desk) (m : List (ℕ × ℕ)) (f : ℕ → Bool) (c : Call)
     → RelO s p j d i e m (keep f (d .loose)) → about p d c ≡ true → (about p e (through m c) ≡ true) × (call-by (key i) (through m c) ≡ call-by (key j) c)
@@ -421,18 +430,12 @@ unfolding about
 like-there s p j d i e m f Call.reserve o a = absurd (false≢true a)
 like-there s p j d i e m f (Call.release t) o a = absurd (false≢true a)
 like-there s p j d i e m f (Call.add named q) o a = (a, refl)
-like-there s p j d i e m f (Call.remove t) o a = let z = owned-tied s p j d i e m f t o a in let y = carried s p j d i e t (o .rel) a in
-    (subst (λ n. owns p e n ≡ true) (sym z) (y .0), ap (λ n. Call.remove (key i n)) z ∙ ap Call.remove (y .1))
-like-there s p j d i e m f (Call.trigger t x) o a = let z = owned-tied s p j d i e m f t o a in let y = carried s p j d i e t (o .rel) a in
-    (subst (λ n. owns p e n ≡ true) (sym z) (y .0), ap (λ n. Call.trigger (key i n) x) z ∙ ap (λ n. Call.trigger n x) (y .1))
-like-there s p j d i e m f (Call.listed t) o a = let z = owned-tied s p j d i e m f t o a in let y = carried s p j d i e t (o .rel) a in
-    (subst (λ n. owns p e n ≡ true) (sym z) (y .0), ap (λ n. Call.listed (key i n)) z ∙ ap Call.listed (y .1))
-like-there s p j d i e m f (Call.transfers t) o a = let z = owned-tied s p j d i e m f t o a in let y = carried s p j d i e t (o .rel) a in
-    (subst (λ n. owns p e n ≡ true) (sym z) (y .0), ap (λ n. Call.transfers (key i n)) z ∙ ap Call.transfers (y .1))
+like-there s p j d i e m f (Call.touch t x) o a = let z = same-there s p j d i e m f t o a in (z .0, ap (λ n. Call.touch n x) (z .1))
+like-there s p j d i e m f (Call.ask q) o a = question-there s p j d i e m f q o a
 like-there s p j d i e m f Call.complete o a = (refl, refl)
 like-there s p j d i e m f (Call.publish now c) o a = (refl, refl)
 like-there s p j d i e m f (Call.run-fdt now draft) o a = (refl, refl)
-like-there s p j d i e m f (Call.run-file now n) o a = (session-there s p j d i e now n (o .rel) a, refl)
+like-there s p j d i e m f (Call.run-file n now) o a = (session-there s p j d i e now n (o .rel) a, refl)
 
 -- no more entries there
 full-there : (s : Setup) (p : ℕ) (j : List ℕ) (d : Desk) (i : List ℕ) (e : Desk) (m : List (ℕ × ℕ)) (f : ℕ → Bool)
@@ -478,14 +481,12 @@ unfolding about
 clear-there s p j d i e m l (Call.add named q) o a h = rw a (add-there s p j d i e named (maybe none (λ t. some (look m t)) named) q (o .rel) (rows-there s p j d i e m l named q a o) (rw a at h))
 clear-there s p j d i e m l Call.reserve o a h = refl
 clear-there s p j d i e m l (Call.release t) o a h = refl
-clear-there s p j d i e m l (Call.remove t) o a h = refl
-clear-there s p j d i e m l (Call.trigger t f) o a h = refl
-clear-there s p j d i e m l (Call.listed t) o a h = refl
-clear-there s p j d i e m l (Call.transfers t) o a h = refl
+clear-there s p j d i e m l (Call.touch t x) o a h = refl
+clear-there s p j d i e m l (Call.ask q) o a h = refl
 clear-there s p j d i e m l Call.complete o a h = refl
 clear-there s p j d i e m l (Call.publish now c) o a h = refl
 clear-there s p j d i e m l (Call.run-fdt now draft) o a h = refl
-clear-there s p j d i e m l (Call.run-file now n) o a h = refl
+clear-there s p j d i e m l (Call.run-file n now) o a h = refl
 
 accepted-by : (f : ℕ → ℕ) (a : Answer) → accepted (answer-by f a) ≡ accepted a
 accepted-by f (Answer.refused n) = refl
@@ -544,14 +545,12 @@ module _ (s : Setup) (p : ℕ) (w : 16 ≤ s .width) where
       after-add s p j d i e m l q a named (add-refusal s d named q) (add-refusal s e (maybe none (λ t. some (look m t)) named) q) refl v o r
   after-shown j d i e m l Call.reserve o a v r = absurd (false≢true a)
   after-shown j d i e m l (Call.release t) o a v r = absurd (false≢true a)
-  after-shown j d i e m l (Call.remove t) o a v r = after-quiet s p j d i e m l (Call.remove t) refl o r
-  after-shown j d i e m l (Call.trigger t f) o a v r = after-quiet s p j d i e m l (Call.trigger t f) refl o r
-  after-shown j d i e m l (Call.listed t) o a v r = after-quiet s p j d i e m l (Call.listed t) refl o r
-  after-shown j d i e m l (Call.transfers t) o a v r = after-quiet s p j d i e m l (Call.transfers t) refl o r
+  after-shown j d i e m l (Call.touch t x) o a v r = after-quiet s p j d i e m l (Call.touch t x) refl o r
+  after-shown j d i e m l (Call.ask q) o a v r = after-quiet s p j d i e m l (Call.ask q) refl o r
   after-shown j d i e m l Call.complete o a v r = after-quiet s p j d i e m l Call.complete refl o r
   after-shown j d i e m l (Call.publish now c) o a v r = after-quiet s p j d i e m l (Call.publish now c) refl o r
   after-shown j d i e m l (Call.run-fdt now draft) o a v r = after-quiet s p j d i e m l (Call.run-fdt now draft) refl o r
-  after-shown j d i e m l (Call.run-file now n) o a v r = after-quiet s p j d i e m l (Call.run-file now n) refl o r
+  after-shown j d i e m l (Call.run-file n now) o a v r = after-quiet s p j d i e m l (Call.run-file n now) refl o r
 
   -- a call there that is not about the priority, and admits nothing, does not show
   rel-there : (j : List ℕ) (d : Desk) (i : List ℕ) (e : Desk) (c : Call) → Rel s p j d i e → about p e c ≡ false → ((n : ℕ) → noted n c (step s e c .0) [] ≡ [])
@@ -617,14 +616,12 @@ module _ (s : Setup) (p : ℕ) (w : 16 ≤ s .width) where
   )
   after-reserve j d i e m l (Call.release t) o a h = absurd (false≢true h)
   after-reserve j d i e m l (Call.add named q) o a h = absurd (false≢true h)
-  after-reserve j d i e m l (Call.remove t) o a h = absurd (false≢true h)
-  after-reserve j d i e m l (Call.trigger t f) o a h = absurd (false≢true h)
-  after-reserve j d i e m l (Call.listed t) o a h = absurd (false≢true h)
-  after-reserve j d i e m l (Call.transfers t) o a h = absurd (false≢true h)
+  after-reserve j d i e m l (Call.touch t x) o a h = absurd (false≢true h)
+  after-reserve j d i e m l (Call.ask q) o a h = absurd (false≢true h)
   after-reserve j d i e m l Call.complete o a h = absurd (false≢true h)
   after-reserve j d i e m l (Call.publish now c) o a h = absurd (false≢true h)
   after-reserve j d i e m l (Call.run-fdt now draft) o a h = absurd (false≢true h)
-  after-reserve j d i e m l (Call.run-file now n) o a h = absurd (false≢true h)
+  after-reserve j d i e m l (Call.run-file n now) o a h = absurd (false≢true h)
 
   -- a call that asks after a reservation of the priority, made here and there
   asked-both : (j : List ℕ) (d : Desk) (i : List ℕ) (e : Desk) (m : List (ℕ × ℕ)) (l : List Call) (c : Call) → quiet c ≡ true
@@ -634,24 +631,27 @@ module _ (s : Setup) (p : ℕ) (w : 16 ≤ s .width) where
   asked-both j d i e m l c k o a b = after-quiet s p j d i e m l c k o
       (rel-there (noted p c (step s d c .0) j) (step s d c .1) i e (through m c) (rel-hidden s p w j d i e c (o .rel) a) b (λ n. quieted s n e (through m c) (quiet-through m c k) .no-note []))
 
+  -- a question after a reservation of the priority is about none of its objects there
+  unasked : (j : List ℕ) (d : Desk) (i : List ℕ) (e : Desk) (m : List (ℕ × ℕ)) (l : List Call) (q : Question)
+      → RelO s p j d i e m (claimed s p d (Call.ask q ∷ l)) → asks-loose s p d (Call.ask q) l ≡ true → about-question p e (question-by (look m) q) ≡ false
+  unfolding asks-loose claims step
+  unasked j d i e m l (Question.listed t) o h = unowned-there s p j d i e m (λ u. claims s p u d (Call.ask (Question.listed t) ∷ l)) t o h
+  unasked j d i e m l (Question.transfers t) o h = unowned-there s p j d i e m (λ u. claims s p u d (Call.ask (Question.transfers t) ∷ l)) t o h
+
   after-asked : (j : List ℕ) (d : Desk) (i : List ℕ) (e : Desk) (m : List (ℕ × ℕ)) (l : List Call) (c : Call)
       → RelO s p j d i e m (claimed s p d (c ∷ l)) → about p d c ≡ false → asks-loose s p d c l ≡ true → There j d i e m l c
   unfolding asks-loose about claims
-  after-asked j d i e m l (Call.remove t) o a h = let b = unowned-there s p j d i e m (λ u. claims s p u d (Call.remove t ∷ l)) t o h in
-      (asked-both j d i e m l (Call.remove t) refl o a b, b, refl)
-  after-asked j d i e m l (Call.trigger t f) o a h = let b = unowned-there s p j d i e m (λ u. claims s p u d (Call.trigger t f ∷ l)) t o h in
-      (asked-both j d i e m l (Call.trigger t f) refl o a b, b, refl)
-  after-asked j d i e m l (Call.listed t) o a h = let b = unowned-there s p j d i e m (λ u. claims s p u d (Call.listed t ∷ l)) t o h in
-      (asked-both j d i e m l (Call.listed t) refl o a b, b, refl)
-  after-asked j d i e m l (Call.transfers t) o a h = let b = unowned-there s p j d i e m (λ u. claims s p u d (Call.transfers t ∷ l)) t o h in
-      (asked-both j d i e m l (Call.transfers t) refl o a b, b, refl)
+  after-asked j d i e m l (Call.touch t x) o a h = let b = unowned-there s p j d i e m (λ u. claims s p u d (Call.touch t x ∷ l)) t o h in
+      (asked-both j d i e m l (Call.touch t x) refl o a b, b, refl)
+  after-asked j d i e m l (Call.ask q) o a h = let b = unasked j d i e m l q o h in
+      (asked-both j d i e m l (Call.ask q) refl o a b, b, refl)
   after-asked j d i e m l Call.reserve o a h = absurd (false≢true h)
   after-asked j d i e m l (Call.release t) o a h = absurd (false≢true h)
   after-asked j d i e m l (Call.add named q) o a h = absurd (false≢true h)
   after-asked j d i e m l Call.complete o a h = absurd (false≢true h)
   after-asked j d i e m l (Call.publish now c) o a h = absurd (false≢true h)
   after-asked j d i e m l (Call.run-fdt now draft) o a h = absurd (false≢true h)
-  after-asked j d i e m l (Call.run-file now n) o a h = absurd (false≢true h)
+  after-asked j d i e m l (Call.run-file n now) o a h = absurd (false≢true h)
 
   -- a call of the one kind or the other
   after-there : (j : List ℕ) (d : Desk) (i : List ℕ) (e : Desk) (m : List (ℕ × ℕ)) (l : List Call) (c : Call)

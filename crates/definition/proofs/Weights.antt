@@ -1,5 +1,5 @@
 -- Sums over the objects of a desk: for any weight that does not read an object's life, no call but an add makes the sum larger.
-use mathlib.Core.Path.{_≡_, refl, sym, ap}
+use mathlib.Core.Path.{_≡_, refl, sym, ap, _∙_}
 use mathlib.Core.Bool.{Bool, true, false, not, _&&_}
 use mathlib.Core.Option.{Option, none, some}
 use mathlib.Core.List.{List, [], _∷_, _++_, map}
@@ -7,7 +7,7 @@ use Prim.Native.Nat.{ℕ, zero, suc, _+_, _≤_}
 use native.Mathlib.Omega.{arith}
 use lib.Dec.{eqb}
 use lib.ListN.{length, set}
-use Rattle.sizes.specs.Words.{if_then_else_, maybe, given, keep, at, find, drop-first, first-of, times, one-if}
+use Rattle.sizes.specs.Words.{if_then_else_, maybe, given, keep, at, find, drop-first, first-of, times, one-if, collect}
 use Rattle.sizes.specs.declared.refusal.Refusal.the-variants as Because
 use Rattle.sizes.proofs.Tests.{none≢some}
 use Rattle.lifecycle.specs.Lifecycle.{Life, announced, triggered, too-early, expired, finished, started}
@@ -15,9 +15,10 @@ use Rattle.lifecycle.specs.Setup.{Setup}
 use Rattle.definition.specs.Encoder.{Symbol, read}
 use Rattle.definition.specs.FdtSession.{fdt-published, fdt-run}
 use Rattle.definition.specs.Session.{Object, Hand, Session, living, startable, begin, put-back, forced, Turn, idle, sent, serve, go-on, take-on, file-run}
-use Rattle.definition.specs.Desk.{Desk, Request, Call, Answer, opening, in-hands, objects, is, moved, numbered, with-fdt, in-hand, marked, marked-hand, all-published, unlisted, removed, prompted, reserved, toi-for, made, admitted, not-loose, full, reserve-refusal, release-refusal, add-refusal, publish-refusal, draft-refusal, draft-of, ran, fdt-queued, fdt-ran, step}
+use Rattle.definition.specs.Desk.{Desk, Request, Call, Answer, opening, in-hands, objects, is, moved, numbered, with-fdt, in-hand, marked, marked-hand, all-published, reserved, toi-for, made, admitted, not-loose, full, reserve-refusal, release-refusal, add-refusal, publish-refusal, draft-refusal, draft-of, ran, fdt-queued, fdt-ran, step, Touch, touched-waiting, touched-hand, touched}
 use Rattle.definition.specs.Apart.{adding}
 use Rattle.definition.proofs.Refused.{either, kept}
+use Rattle.definition.proofs.Touches.{Waiting, gone, lives, touched-kept, touched-hand-kept}
 
 -- ---- sums over lists
 
@@ -74,14 +75,12 @@ pub sort-of : (c : Call) → Sort c
 sort-of (Call.add named q) = an-add named q refl
 sort-of Call.reserve = another refl
 sort-of (Call.release t) = another refl
-sort-of (Call.remove t) = another refl
-sort-of (Call.trigger t f) = another refl
-sort-of (Call.listed t) = another refl
-sort-of (Call.transfers t) = another refl
+sort-of (Call.touch t x) = another refl
+sort-of (Call.ask q) = another refl
 sort-of Call.complete = another refl
 sort-of (Call.publish now c) = another refl
 sort-of (Call.run-fdt now draft) = another refl
-sort-of (Call.run-file now i) = another refl
+sort-of (Call.run-file i now) = another refl
 
 -- at set-up there is none
 pub none-yet : (s : Setup) → objects (opening s) ≡ []
@@ -210,27 +209,27 @@ module _ (w : Object → ℕ) where
         same : (h : Hand) → w (marked-hand h .object) ≡ w (h .object)
         same h = either (λ (x : Hand). w (x .object) ≡ w (h .object)) (h .listed) _ h (stable (announced (h .object .life)) (h .object)) refl
 
-    unlisted-same : (t : ℕ) (h : Hand) → w (unlisted t h .object) ≡ w (h .object)
-    unfolding unlisted
-    unlisted-same t h = either (λ (x : Hand). w (x .object) ≡ w (h .object)) (is t (h .object)) _ h refl refl
+    touched-same : (t : ℕ) (x : Touch) (h : Hand) → w (touched-hand t x h .object) ≡ w (h .object)
+    touched-same t x h = let k = touched-hand-kept t x h in ap w (k .object) ∙ stable (k .life) (h .object)
 
-    prompted-same : (t : ℕ) (f : Option ℕ) (o : Object) → w (prompted t f o) ≡ w o
-    unfolding prompted
-    prompted-same t f o = either (λ x. w x ≡ w o) (is t o) (living (triggered f (o .life)) o) o (stable (triggered f (o .life)) o) refl
+    touched-lighter : (g : Object → Option Object) → ((o : Object) → Waiting o (g o)) → (q : List Object) → total w (collect g q) ≤ total w q
+    touched-lighter g k [] = omega arith
+    touched-lighter g k (o ∷ q) = go (g o) (k o) (touched-lighter g k q)
+      where
+        go : (y : Option Object) → Waiting o y → total w (collect g q) ≤ total w q → total w (maybe (collect g q) (λ z. z ∷ collect g q) y) ≤ w o + total w q
+        go y gone r = omega arith
+        go y (lives l) r = let h = stable l o in omega arith
 
     -- a call that is no add makes no sum larger
     pub lighter : (s : Setup) (d : Desk) (c : Call) → adding c ≡ none → total w (objects (step s d c .1)) ≤ total w (objects d)
-    unfolding step reserved numbered removed ran fdt-ran with-fdt objects
+    unfolding step reserved numbered touched ran fdt-ran with-fdt objects
     lighter s d Call.reserve k = kept (λ e. total w (objects e) ≤ total w (objects d)) (reserve-refusal d) d _ (omega arith) (λ e. omega arith)
     lighter s d (Call.release t) k = kept (λ e. total w (objects e) ≤ total w (objects d)) (release-refusal d t) d _ (omega arith) (λ e. omega arith)
     lighter s d (Call.add named q) k = absurd (none≢some (sym k))
-    lighter s d (Call.remove t) k = moved-lighter d (keep (λ o. not (is t o)) (d .queue)) (map (in-hand (unlisted t)) (d .sessions)) (
-        let a = total-keep w (λ o. not (is t o)) (d .queue) in
-        let b = hands-map (unlisted t) (unlisted-same t) (d .sessions) in omega arith)
-    lighter s d (Call.trigger t f) k = moved-lighter d (map (prompted t f) (d .queue)) (d .sessions) (
-        let a = total-map w (prompted t f) (prompted-same t f) (d .queue) in omega arith)
-    lighter s d (Call.listed t) k = omega arith
-    lighter s d (Call.transfers t) k = omega arith
+    lighter s d (Call.touch t x) k = moved-lighter d (collect (touched-waiting t x) (d .queue)) (map (in-hand (touched-hand t x)) (d .sessions)) (
+        let a = touched-lighter (touched-waiting t x) (touched-kept t x) (d .queue) in
+        let b = hands-map (touched-hand t x) (touched-same t x) (d .sessions) in omega arith)
+    lighter s d (Call.ask q) k = omega arith
     lighter s d Call.complete k = omega arith
     lighter s d (Call.publish now c) k = kept (λ e. total w (objects e) ≤ total w (objects d)) (publish-refusal s (d .fdt) c) d _ (omega arith)
         (λ e. published-lighter (with-fdt d (fdt-published now c (d .fdt))))
@@ -238,7 +237,7 @@ module _ (w : Object → ℕ) where
         let r = fdt-run s now (draft-of draft) (d .fdt) in
         kept (λ e. total w (objects e) ≤ total w (objects d)) (draft-refusal s (d .fdt) draft) d _ (omega arith)
         (λ e. either (λ (x : Desk). total w (objects x) ≤ total w (objects d)) (r .taken) (all-published (with-fdt d (r .fdt))) (with-fdt d (r .fdt)) (published-lighter (with-fdt d (r .fdt))) (omega arith))
-    lighter s d (Call.run-file now i) k = go (at (d .sessions) i) refl
+    lighter s d (Call.run-file i now) k = go (at (d .sessions) i) refl
       where
         go : (x : Option Session) → at (d .sessions) i ≡ x → total w (objects (maybe (Answer.refused Because.NoSession, d) (ran s now i d) x .1)) ≤ total w (objects d)
         go none e = omega arith

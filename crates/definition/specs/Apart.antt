@@ -12,7 +12,7 @@ use Rattle.sizes.specs.Refusals.{refusal-number}
 use Rattle.lifecycle.specs.Setup.{Setup}
 use Rattle.definition.specs.FdtSession.{Packet}
 use Rattle.definition.specs.Session.{Object, Session}
-use Rattle.definition.specs.Desk.{Desk, Request, Call, Answer, opening, objects, is, step}
+use Rattle.definition.specs.Desk.{Desk, Request, Question, Call, Answer, opening, objects, is, step}
 
 -- ---- which calls are about a priority
 
@@ -24,34 +24,35 @@ mine p o = eqb (o .priority) p
 unfoldable pub owns : ℕ → Desk → ℕ → Bool
 owns p d t = any (λ o. mine p o && is t o) (objects d)
 
+-- is the question about the priority
+abbrev pub about-question : ℕ → Desk → Question → Bool
+about-question p d (Question.listed t) = owns p d t
+about-question p d (Question.transfers t) = owns p d t
+
 -- is the call about one of the priority's objects or sessions, or an FDT call or the completion. An add, refused or not, is about its own priority.
 -- Reservations are not asked for here: two runs are alike whether or not these agree
 unfoldable pub about : ℕ → Desk → Call → Bool
 about p d Call.reserve = false
 about p d (Call.release t) = false
 about p d (Call.add named q) = eqb (q .priority) p
-about p d (Call.remove t) = owns p d t
-about p d (Call.trigger t f) = owns p d t
-about p d (Call.listed t) = owns p d t
-about p d (Call.transfers t) = owns p d t
+about p d (Call.touch t x) = owns p d t
+about p d (Call.ask q) = about-question p d q
 about p d Call.complete = true
 about p d (Call.publish now c) = true
 about p d (Call.run-fdt now draft) = true
-about p d (Call.run-file now i) = maybe false (λ (x : Session). eqb (x .priority) p) (at (d .sessions) i)
+about p d (Call.run-file i now) = maybe false (λ (x : Session). eqb (x .priority) p) (at (d .sessions) i)
 
 -- what an add asks for: the reservation that it names, and the request
 abbrev pub adding : Call → Option (Option ℕ × Request)
 adding (Call.add named q) = some (named, q)
 adding Call.reserve = none
 adding (Call.release t) = none
-adding (Call.remove t) = none
-adding (Call.trigger t f) = none
-adding (Call.listed t) = none
-adding (Call.transfers t) = none
+adding (Call.touch t x) = none
+adding (Call.ask q) = none
 adding Call.complete = none
 adding (Call.publish now c) = none
 adding (Call.run-fdt now draft) = none
-adding (Call.run-file now i) = none
+adding (Call.run-file i now) = none
 
 -- is it an add of the priority
 abbrev pub adds : ℕ → Call → Bool
@@ -91,19 +92,22 @@ abbrev pub key : List ℕ → ℕ → ℕ
 key [] t = 0
 key (u ∷ j) t = if eqb u t then suc (length j) else key j t
 
+-- a question with its object number put through f
+abbrev pub question-by : (ℕ → ℕ) → Question → Question
+question-by f (Question.listed t) = Question.listed (f t)
+question-by f (Question.transfers t) = Question.transfers (f t)
+
 -- a call with each object number put through f, and the reservation that an add names put through g
 abbrev pub renumbered : (ℕ → ℕ) → (Option ℕ → Option ℕ) → Call → Call
 renumbered f g Call.reserve = Call.reserve
 renumbered f g (Call.release t) = Call.release (f t)
 renumbered f g (Call.add named q) = Call.add (g named) q
-renumbered f g (Call.remove t) = Call.remove (f t)
-renumbered f g (Call.trigger t x) = Call.trigger (f t) x
-renumbered f g (Call.listed t) = Call.listed (f t)
-renumbered f g (Call.transfers t) = Call.transfers (f t)
+renumbered f g (Call.touch t x) = Call.touch (f t) x
+renumbered f g (Call.ask q) = Call.ask (question-by f q)
 renumbered f g Call.complete = Call.complete
 renumbered f g (Call.publish now c) = Call.publish now c
 renumbered f g (Call.run-fdt now draft) = Call.run-fdt now draft
-renumbered f g (Call.run-file now i) = Call.run-file now i
+renumbered f g (Call.run-file i now) = Call.run-file i now
 
 -- the number that an add names need not match
 abbrev pub call-by : (ℕ → ℕ) → Call → Call
@@ -178,32 +182,32 @@ abbrev pub ending : Call → Option ℕ
 ending (Call.add named q) = named
 ending (Call.release t) = some t
 ending Call.reserve = none
-ending (Call.remove t) = none
-ending (Call.trigger t f) = none
-ending (Call.listed t) = none
-ending (Call.transfers t) = none
+ending (Call.touch t x) = none
+ending (Call.ask q) = none
 ending Call.complete = none
 ending (Call.publish now c) = none
 ending (Call.run-fdt now draft) = none
-ending (Call.run-file now i) = none
+ending (Call.run-file i now) = none
 
 -- does the call end the reservation of t
 abbrev pub ends : ℕ → Call → Answer → Bool
 ends t c a = maybe false (λ u. accepted a && eqb u t) (ending c)
 
--- the number that a call asks after
+-- the number that a question, and a call, asks after
+abbrev pub asked-after : Question → Option ℕ
+asked-after (Question.listed t) = some t
+asked-after (Question.transfers t) = some t
+
 abbrev pub asked : Call → Option ℕ
-asked (Call.remove t) = some t
-asked (Call.trigger t f) = some t
-asked (Call.listed t) = some t
-asked (Call.transfers t) = some t
+asked (Call.touch t x) = some t
+asked (Call.ask q) = asked-after q
 asked Call.reserve = none
 asked (Call.release t) = none
 asked (Call.add named q) = none
 asked Call.complete = none
 asked (Call.publish now c) = none
 asked (Call.run-fdt now draft) = none
-asked (Call.run-file now i) = none
+asked (Call.run-file i now) = none
 
 -- the number there of what has number t here, latest first
 abbrev pub look : List (ℕ × ℕ) → ℕ → ℕ
@@ -229,14 +233,12 @@ module _ (s : Setup) (p : ℕ) where
   reserves d Call.reserve l = accepted (step s d Call.reserve .0) && claims (d .next) (step s d Call.reserve .1) l
   reserves d (Call.release u) l = false
   reserves d (Call.add named q) l = false
-  reserves d (Call.remove u) l = false
-  reserves d (Call.trigger u f) l = false
-  reserves d (Call.listed u) l = false
-  reserves d (Call.transfers u) l = false
+  reserves d (Call.touch u x) l = false
+  reserves d (Call.ask q) l = false
   reserves d Call.complete l = false
   reserves d (Call.publish now c) l = false
   reserves d (Call.run-fdt now draft) l = false
-  reserves d (Call.run-file now i) l = false
+  reserves d (Call.run-file i now) l = false
 
   -- does the call ask after a reservation of the priority: no object has the number, so it answers no or none and changes nothing
   unfoldable pub asks-loose : Desk → Call → List Call → Bool

@@ -36,18 +36,26 @@ pub record Request : Type 0 where
   pub plan : Plan
   pub named-start : Option ℕ
 
+-- what is done to a listed object; each answers whether there is one
+pub data Touch : Type 0 where
+  remove : Touch
+  trigger : Option ℕ → Touch  -- and a named start, if any
+
+-- what only asks
+pub data Question : Type 0 where
+  listed : ℕ → Question
+  transfers : ℕ → Question
+
 pub data Call : Type 0 where
   reserve : Call
   release : ℕ → Call
   add : Option ℕ → Request → Call  -- the reservation it names, if any
-  remove : ℕ → Call
-  trigger : ℕ → Option ℕ → Call  -- and a named start, if any
-  listed : ℕ → Call
-  transfers : ℕ → Call
+  touch : ℕ → Touch → Call  -- of the listed object with that number
+  ask : Question → Call
   complete : Call
   publish : ℕ → Part → Call  -- clock, content
   run-fdt : ℕ → Option Part → Call  -- clock, draft
-  run-file : ℕ → ℕ → Call  -- clock, session
+  run-file : ℕ → ℕ → Call  -- session, clock
 
 pub data Answer : Type 0 where
   refused : Refusal → Answer
@@ -123,16 +131,30 @@ marked-hand h = if h .listed then record { object = marked (h .object); listed =
 unfoldable pub all-published : Desk → Desk
 all-published d = moved d (map marked (d .queue)) (map (in-hand marked-hand) (d .sessions))
 
--- remove takes the object with the number from the list; a session that has it in hand keeps it
-unfoldable pub unlisted : ℕ → Hand → Hand
-unlisted t h = if is t (h .object) then record { object = h .object; listed = false; encoder = h .encoder; pace = h .pace } else h
+-- what becomes of an object that waits: a removed one is gone
+abbrev pub waiting-after : Touch → Object → Option Object
+waiting-after remove o = none
+waiting-after (trigger f) o = some (living (triggered f (o .life)) o)
 
-unfoldable pub removed : ℕ → Desk → Desk
-removed t d = moved d (keep (λ o. not (is t o)) (d .queue)) (map (in-hand (unlisted t)) (d .sessions))
+-- what becomes of one that a session has in hand: removed, it stays in hand; trigger touches none in transfer
+abbrev pub hand-after : Touch → Hand → Hand
+hand-after remove h = record { object = h .object; listed = false; encoder = h .encoder; pace = h .pace }
+hand-after (trigger f) h = h
 
--- trigger touches an object that waits, and none in transfer
-unfoldable pub prompted : ℕ → Option ℕ → Object → Object
-prompted t f o = if is t o then living (triggered f (o .life)) o else o
+-- only the object with the number is touched
+unfoldable pub touched-waiting : ℕ → Touch → Object → Option Object
+touched-waiting t x o = if is t o then waiting-after x o else some o
+
+unfoldable pub touched-hand : ℕ → Touch → Hand → Hand
+touched-hand t x h = if is t (h .object) then hand-after x h else h
+
+unfoldable pub touched : ℕ → Touch → Desk → Desk
+touched t x d = moved d (collect (touched-waiting t x) (d .queue)) (map (in-hand (touched-hand t x)) (d .sessions))
+
+-- what a question is answered
+abbrev pub answer-to : Desk → Question → Answer
+answer-to d (listed t) = truth (given (listed-as d t))
+answer-to d (transfers t) = transferred (maybe none (λ (o : Object). some (o .life .total)) (listed-as d t))
 
 -- the next number is given: it is held as a loose reservation, and the next after it that is not held comes next
 unfoldable pub reserved : Setup → Desk → Desk
@@ -258,14 +280,12 @@ step s d (release t) = unless (release-refusal d t) d (done, numbered d (d .next
 step s d (add named q) =
     unless (add-refusal s d named q) d
     (number (toi-for d named), admitted s (toi-for d named) q (if given named then d else reserved s d))
-step s d (remove t) = (truth (given (listed-as d t)), removed t d)
-step s d (trigger t f) = (truth (given (listed-as d t)), moved d (map (prompted t f) (d .queue)) (d .sessions))
-step s d (listed t) = (truth (given (listed-as d t)), d)
-step s d (transfers t) = (transferred (maybe none (λ (o : Object). some (o .life .total)) (listed-as d t)), d)
+step s d (touch t x) = (truth (given (listed-as d t)), touched t x d)
+step s d (ask q) = (answer-to d q, d)
 step s d complete = (done, record { complete = true; next = d .next; loose = d .loose; queue = d .queue; sessions = d .sessions; fdt = d .fdt })
 step s d (publish now c) = unless (publish-refusal s (d .fdt) c) d (done, all-published (with-fdt d (fdt-published now c (d .fdt))))
 step s d (run-fdt now draft) = unless (draft-refusal s (d .fdt) draft) d (fdt-ran s now (draft-of draft) d)
-step s d (run-file now i) = maybe (refused Because.NoSession, d) (ran s now i d) (at (d .sessions) i)
+step s d (run-file i now) = maybe (refused Because.NoSession, d) (ran s now i d) (at (d .sessions) i)
 
 -- a run of calls: each call's answer, and the desk at the end
 unfoldable pub run : Setup → Desk → List Call → List Answer × Desk
