@@ -12,20 +12,20 @@ use Rattle.sizes.specs.Words.{if_then_else_, maybe, given, any, at, has, find, 
 use Rattle.sizes.specs.declared.refusal.Refusal.{Refusal}
 use Rattle.sizes.specs.declared.refusal.Refusal.the-variants as Because
 use Rattle.lifecycle.specs.declared.parts.Part.{Part}
-use Rattle.definition.specs.Encoder.{Encoder, Symbol, fresh, read}
 use Rattle.lifecycle.specs.Lifecycle.{triggered}
 use Rattle.lifecycle.specs.Setup.{Setup, bad-blocks}
 use Rattle.lifecycle.specs.Fdt.{Instance, next-fdt, fdt-done}
-use Rattle.definition.specs.FdtSession.{Fdt, FdtTurn, FdtHand, Packet, fdt-published, fdt-send, fdt-attempt, fdt-idle, fdt-run}
-use Rattle.definition.specs.Session.{Object, Hand, Session, living, Turn, file-run}
-use Rattle.definition.specs.Desk.{Desk, Request, Call, Answer, opening, in-hands, objects, numbers, is, listed-in-hands, listed-as, moved, numbered, with-fdt, in-hand, marked, marked-hand, all-published, reserved, toi-for, made, admitted, own-sizes, no-session, bad-object-part, not-loose, full, no-room, reserve-refusal, release-refusal, add-refusal, publish-refusal, draft-refusal, draft-of, Result, unless, ran, step, unloosed, fdt-queued, fdt-ran, Touch, Question, waiting-after, hand-after, touched-waiting, touched-hand, touched, answer-to}
+use Rattle.definition.specs.FdtSession.{Fdt, FdtTurn, Packet, fdt-published, fdt-run, fdt-sent}
+use Rattle.definition.specs.Session.{Object, Hand, Session, Turn, file-run}
+use Rattle.definition.specs.Desk.{Desk, Request, Call, Answer, opening, in-hands, objects, numbers, is, listed-in-hands, listed-as, moved, numbered, with-fdt, in-hand, marked, marked-hand, all-published, reserved, toi-for, made, admitted, own-sizes, no-session, bad-object-part, not-loose, no-room, reserve-refusal, release-refusal, add-refusal, publish-refusal, draft-refusal, draft-of, Result, unless, ran, step, unloosed, fdt-queued, fdt-ran, Touch, Question, waiting-after, hand-after, touched-waiting, touched-hand, touched, answer-to}
 use Rattle.definition.specs.Apart.{mine, owns, about, noted, key, call-by, packet-by, perhaps-by, answer-by, bars, is-barred, turned-away, calls, answers, smooth, Alike as AlikeRuns, PacketNamed, Named, about-question, question-by}
 use Rattle.definition.proofs.Numbers.{Unique, unique-step, unique-opening, tois, admissible}
-use Rattle.definition.proofs.View.{retag, retag-held, seen, see, seen-append, seen-mine, seen-other, Alike, seen-find, seen-map, seen-keep, seen-kept, seen-unmoved, see-turn, Sends, file-run-seen}
+use Rattle.definition.proofs.View.{retag, retag-held, seen, see, seen-append, seen-mine, seen-other, Alike, seen-find, seen-map, see-turn, Sends, file-run-seen}
 use Rattle.definition.proofs.Known.{Noted, HeldFits, Fits, PacketNoted, Known, file-run-known, file-run-other, known-step, known-opening}
 use Rattle.sizes.proofs.Tests.{Tested, pass, fail, tested, and-left, and-right, or-left, or-right}
 use Rattle.sizes.proofs.Lists.{each-append, each-imp, each-at, map-set, map-set-same, at-map, times-append, has-times, each-left, each-right, each-both, each-all, map-comm, map-hidden}
 use Rattle.definition.proofs.Touches.{touched-kept, renumbered-after, seen-touched, seen-still}
+use Rattle.definition.proofs.Runs.{fdt-run-goes}
 
 -- the number that an admission got, the last of them first
 unfoldable pub got : List ℕ → ℕ → ℕ
@@ -608,34 +608,14 @@ fdt-answer : (f : ℕ → ℕ) (b : Bool) (k : Option Packet) → FdtPacket k �
 fdt-answer f b none u = refl
 fdt-answer f b (some k) u = λ i. Answer.fdt-output b (some record { id = k .id; toi = (if sym u i then k .toi else f (k .toi)); symbol = k .symbol })
 
-module _ (s : Setup) (now : ℕ) (again : Bool → Fdt → FdtTurn) (h : (b : Bool) (f : Fdt) → FdtPacket (again b f .packet)) where
-  fdt-send-packet : (b : Bool) (f : Fdt) → FdtPacket (fdt-send s now b again f .packet)
-  unfolding fdt-send
-  fdt-send-packet b f = outer (f .hand)
-    where
-      last : FdtHand → Encoder → Option Symbol → FdtTurn
-      last x e y = maybe (again b (record { state = fdt-done now (f .state); hand = none }))
-          (λ y. record { taken = b; packet = some record { id = some (x .id); toi = 0; symbol = y }; fdt = record { state = f .state; hand = some record { id = x .id; part = x .part; encoder = e } } }) y
-
-      inner : (x : FdtHand) (e : Encoder) (y : Option Symbol) → FdtPacket (last x e y .packet)
-      inner x e none = h b (record { state = fdt-done now (f .state); hand = none })
-      inner x e (some y) = refl
-
-      outer : (x : Option FdtHand) → FdtPacket (maybe (record { taken = b; packet = none; fdt = f }) (λ (x : FdtHand). let r = read (s .window) (x .part) (s .sizes) false (x .encoder) in last x (r .1) (r .0)) x .packet)
-      outer none = tt
-      outer (some x) = inner x (read (s .window) (x .part) (s .sizes) false (x .encoder) .1) (read (s .window) (x .part) (s .sizes) false (x .encoder) .0)
-
-  fdt-attempt-packet : (draft : Option Part) (b : Bool) (f : Fdt) → FdtPacket (fdt-attempt s now draft again b f .packet)
-  unfolding fdt-attempt
-  fdt-attempt-packet draft b f =
-      let n = next-fdt s now (if b then none else draft) (f .state) in
-      let g : Fdt = record { state = n .state; hand = maybe none (λ (i : Instance). some record { id = i .id; part = i .part; encoder = fresh false }) (n .starts) } in
-      elim (given (f .hand)) as (λ t. FdtPacket ((if t then fdt-send s now b again f else fdt-send s now (b || n .taken) again g) .packet))
-      [ true ↦ fdt-send-packet b f | false ↦ fdt-send-packet (b || n .taken) g ]
-
 fdt-run-packet : (s : Setup) (now : ℕ) (draft : Option Part) (f : Fdt) → FdtPacket (fdt-run s now draft f .packet)
-unfolding fdt-run
-fdt-run-packet s now draft f = fdt-attempt-packet s now (fdt-attempt s now draft fdt-idle) (fdt-attempt-packet s now fdt-idle (λ b g. tt) draft) draft false f
+unfolding fdt-sent
+fdt-run-packet s now draft f = fdt-run-goes s now draft (λ b f. Unit {0}) (λ (t : FdtTurn). FdtPacket (t .packet)) (record {
+  rests = λ b f i. tt;
+  sends = λ b f h y i. refl;
+  ends = λ b f h i. tt;
+  asks = λ b f e i. tt;
+}) f tt
 
 -- a call that is not the priority's does not show
 pub hidden : (p : ℕ) (j : List ℕ) (s : Setup) (d : Desk) (c : Call) → Known p j d → about p d c ≡ false → view p (noted p c (step s d c .0) j) (step s d c .1) ≡ view p j d

@@ -14,12 +14,11 @@ use Rattle.sizes.specs.Limits.{most-blocks}
 use Rattle.sizes.specs.Partition.{blocks-of}
 use Rattle.sizes.specs.declared.partition.Sizes.{Sizes}
 use Rattle.lifecycle.proofs.SetupLaws.{sizes-told}
-use Rattle.definition.specs.Encoder.{Symbol, read}
 use Rattle.lifecycle.specs.Lifecycle.{Life, announced, triggered, too-early, expired, finished, started}
 use Rattle.lifecycle.specs.Setup.{Setup, sound-sizes, bad-blocks}
 use Rattle.definition.specs.FdtSession.{Fdt, FdtTurn, fdt-published, fdt-run}
-use Rattle.definition.specs.Session.{Object, Hand, Session, living, startable, begin, put-back, forced, Turn, idle, sent, serve, go-on, take-on, file-run}
-use Rattle.definition.specs.Desk.{Desk, Request, Call, Answer, opening, in-hands, objects, is, moved, numbered, with-fdt, in-hand, marked, marked-hand, all-published, reserved, toi-for, own-sizes, made, admitted, not-loose, full, reserve-refusal, release-refusal, add-refusal, publish-refusal, draft-refusal, draft-of, unless, ran, step, run, unloosed, fdt-queued, fdt-ran, Touch, touched-waiting, touched-hand, touched}
+use Rattle.definition.specs.Session.{Object, Hand, Session, living, startable, begin, put-back, Turn, sent, file-run}
+use Rattle.definition.specs.Desk.{Desk, Request, Call, Answer, opening, in-hands, objects, moved, numbered, with-fdt, in-hand, marked, marked-hand, all-published, reserved, toi-for, own-sizes, made, admitted, reserve-refusal, release-refusal, add-refusal, publish-refusal, draft-refusal, draft-of, unless, ran, step, run, unloosed, fdt-queued, fdt-ran, Touch, touched-waiting, touched-hand, touched}
 use Rattle.sizes.specs.Words.{Each}
 use Rattle.sizes.proofs.Tests.{or-left, or-right}
 use Rattle.sizes.proofs.Lists.{each-append, each-keep, each-drop-first, each-map, each-set, each-find, each-at, each-left, each-right}
@@ -27,6 +26,7 @@ use Rattle.definition.specs.TotalPromises.{InRange}
 use Rattle.definition.proofs.Weights.{none-yet}
 use Rattle.definition.proofs.Numbers.{blocks-fit}
 use Rattle.definition.proofs.Touches.{touched-kept, touched-hand-kept, each-touched}
+use Rattle.definition.proofs.Runs.{run-goes}
 
 -- what a session holds
 abbrev pub InHand : (Object → Type 0) → Option Hand → Type 0
@@ -48,36 +48,14 @@ module _ (P : Object → Type 0) (stable : (x : Life) (o : Object) → P o → P
       elim (h .listed && not (expired (o .plan) (o .life))) as (λ t. Each P (if t then q ++ (o ∷ []) else q))
       [ true ↦ each-append P q (o ∷ []) u (stable (finished now (h .object .life)) (h .object) v, tt) | false ↦ u ]
 
-  module _ (s : Setup) (now : ℕ) (again : List Object → Turn) (h-again : (q : List Object) → Each P q → InTurn (again q)) where
-    serve-all : (q : List Object) (h : Hand) → Each P q → P (h .object) → InTurn (serve s now again q h)
-    unfolding serve sent
-    serve-all q h u v = elim (too-early now (h .pace))
-        as (λ t. InTurn (if t then idle q (some h) else maybe (again (put-back now h q)) (sent q h (read (s .window) (h .object .part) (h .object .sizes) (forced h) (h .encoder) .1)) (read (s .window) (h .object .part) (h .object .sizes) (forced h) (h .encoder) .0))) [
-          | true ↦ (u, v)
-          | false ↦ elim (read (s .window) (h .object .part) (h .object .sizes) (forced h) (h .encoder) .0)
-              as (λ (y : Option Symbol). InTurn (maybe (again (put-back now h q)) (sent q h (read (s .window) (h .object .part) (h .object .sizes) (forced h) (h .encoder) .1)) y))
-              [ none ↦ h-again (put-back now h q) (back-all now h q u v) | some y ↦ (u, v) ]
-        ]
-
-    go-on-all : (b : Bool) (q : List Object) (h : Hand) → Each P q → P (h .object) → InTurn (go-on s now b again q h)
-    unfolding go-on
-    go-on-all true q h u v = (u, v)
-    go-on-all false q h u v = serve-all q h u v
-
-    take-on-all : (r : ℕ) (b : Bool) (q : List Object) → Each P q → InTurn (take-on s r now b again q)
-    unfolding take-on begin
-    take-on-all r b q u = go (find (startable r now) q) refl
-      where
-        go : (x : Option Object) → find (startable r now) q ≡ x → InTurn (maybe (idle q none) (λ o. go-on s now b again (drop-first (startable r now) q) (begin now o)) x)
-        go none e = (u, tt)
-        go (some o) e = go-on-all b (drop-first (startable r now) q) (begin now o) (each-drop-first P (startable r now) q u)
-            (stable (started (o .plan) now (o .life)) o (each-find P (startable r now) q o e u .0))
-
   file-run-all : (s : Setup) (r now : ℕ) (b : Bool) (q : List Object) (h : Option Hand) → Each P q → InHand P h → InTurn (file-run s r now b q h)
-  unfolding file-run
-  file-run-all s r now b q none u v = take-on-all s now (λ q′. idle q′ none) (λ q′ w. (w, tt)) r b q u
-  file-run-all s r now b q (some h) u v = go-on-all s now (take-on s r now b (λ q′. idle q′ none))
-      (λ q′ w. take-on-all s now (λ q″. idle q″ none) (λ q″ z. (z, tt)) r b q′ w) b q h u v
+  unfolding sent begin
+  file-run-all s r now b q h u v = run-goes s r now b (λ q h. Each P q × InHand P h) InTurn (record {
+    rests = λ q h i. i;
+    sends = λ q h y i. i;
+    ends = λ q h i. (back-all now h q (i .0) (i .1), tt);
+    takes = λ q o e i. (each-drop-first P (startable r now) q (i .0), stable (started (o .plan) now (o .life)) o (each-find P (startable r now) q o e (i .0) .0));
+  }) q h (u, v)
 
   in-hand-all : (g : Hand → Hand) → ((h : Hand) → P (h .object) → P (g h .object)) → (x : Session) → InHand P (x .hand) → InHand P (in-hand g x .hand)
   unfolding in-hand

@@ -18,15 +18,15 @@ use Rattle.lifecycle.specs.declared.parts.Part.{Part}
 use Rattle.lifecycle.specs.Lifecycle.{started, finished, may-start, unborn}
 use Rattle.lifecycle.specs.Setup.{Setup, bad-blocks}
 use Rattle.lifecycle.specs.Fdt.{Instance, FdtState, Next, fdt-plan, fdt-parts, bad-fdt-part, queued, needs-new, takes-draft, republished, front-taken, with-current, start-current, next-fdt, fdt-done}
-use Rattle.definition.specs.Encoder.{Symbol, fresh, read}
-use Rattle.definition.specs.FdtSession.{Fdt, FdtHand, FdtTurn, fdt-published, fdt-send, fdt-attempt, fdt-idle, fdt-run}
+use Rattle.definition.specs.FdtSession.{Fdt, FdtHand, FdtTurn, fdt-published, fdt-run, fdt-sent, fdt-begun}
 use Rattle.definition.specs.Session.{Session}
-use Rattle.definition.specs.Desk.{Desk, Call, Answer, opening, moved, numbered, with-fdt, all-published, reserved, admitted, not-loose, full, reserve-refusal, release-refusal, add-refusal, publish-refusal, draft-refusal, draft-of, ran, fdt-ran, step, touched}
+use Rattle.definition.specs.Desk.{Desk, Call, Answer, opening, moved, numbered, with-fdt, all-published, reserved, admitted, reserve-refusal, release-refusal, add-refusal, publish-refusal, draft-refusal, draft-of, ran, fdt-ran, step, touched}
 use Rattle.definition.specs.TotalPromises.{IfGiven, FdtPart, Matched, nothing, resting, sending, FdtReachable}
 use Rattle.definition.proofs.Refused.{either, kept}
 use Rattle.definition.proofs.Weights.{total, total-append}
 use Rattle.definition.proofs.PartLaws.{cover, apart-cover, cover-apart, one-cover}
 use Rattle.definition.proofs.Hands.{read-window}
+use Rattle.definition.proofs.Runs.{fdt-run-goes}
 
 abbrev Idle : Instance → Type 0
 Idle i = i .transferring ≡ false
@@ -159,18 +159,15 @@ module _ (s : Setup) (now : ℕ) (w : Part → ℕ) (b : ℕ) where
       }
 
   -- then the start
-  abbrev handed : Option Instance → Option FdtHand
-  handed = maybe none (λ (i : Instance). some record { id = i .id; part = i .part; encoder = fresh false })
-
   abbrev transfer : Instance → Instance
   transfer i = record { id = i .id; part = i .part; life = started (fdt-plan s) now (i .life); transferring = true }
 
-  begun : (draft : Option Part) (t x : Bool) (f : FdtState) → Resting draft t f → Going draft t (record { state = start-current s now x f .state; hand = handed (start-current s now x f .starts) })
+  begun : (draft : Option Part) (t x : Bool) (f : FdtState) → Resting draft t f → Going draft t (record { state = start-current s now x f .state; hand = fdt-begun (start-current s now x f .starts) })
   unfolding start-current with-current
   begun draft t x f r = go (f .current) refl
     where
       Held : Next → Type 0
-      Held n = Going draft t (record { state = n .state; hand = handed (n .starts) })
+      Held n = Going draft t (record { state = n .state; hand = fdt-begun (n .starts) })
 
       stays : Held (record { taken = x; state = f; starts = none })
       stays = record { few = r .few; idle = r .idle; matched = r .matched; window = tt; weight = r .weight }
@@ -207,7 +204,7 @@ module _ (s : Setup) (now : ℕ) (w : Part → ℕ) (b : ℕ) where
       go (some i) = either (λ (n : Next). n .taken ≡ x) (may-start (fdt-plan s) now (i .life)) _ _ refl refl
 
   next-going : (draft : Option Part) (t : Bool) (f : FdtState) → Resting draft t f
-      → (let n = next-fdt s now (offered draft t) f in Going draft (t || n .taken) (record { state = n .state; hand = handed (n .starts) }))
+      → (let n = next-fdt s now (offered draft t) f in Going draft (t || n .taken) (record { state = n .state; hand = fdt-begun (n .starts) }))
   unfolding next-fdt republished takes-draft
   next-going draft t f r = rw (idle-current (f .current) (r .matched), start-taken) (
       begun draft (t || (needs-new s now f && given (offered draft t))) (needs-new s now f && given (offered draft t)) (front-taken (republished s now (offered draft t) f))
@@ -240,60 +237,20 @@ module _ (s : Setup) (now : ℕ) (w : Part → ℕ) (b : ℕ) where
   from-rest : (draft : Option Part) (t : Bool) (f : FdtState) → Resting draft t f → Going draft t (record { state = f; hand = none })
   from-rest draft t f r = record { few = r .few; idle = r .idle; matched = r .matched; window = tt; weight = r .weight }
 
-  module _ (draft : Option Part) (again : Bool → Fdt → FdtTurn) (h-again : (t : Bool) (f : Fdt) → Going draft t f → Going draft (again t f .taken) (again t f .fdt)) where
-    send-going : (t : Bool) (f : Fdt) → Going draft t f → (let r = fdt-send s now t again f in Going draft (r .taken) (r .fdt))
-    unfolding fdt-send
-    send-going t f g = go (f .hand) refl
-      where
-        Held : FdtTurn → Type 0
-        Held r = Going draft (r .taken) (r .fdt)
-
-        sends : (x : FdtHand) → f .hand ≡ some x → Going draft t (record { state = f .state; hand = some record { id = x .id; part = x .part; encoder = read (s .window) (x .part) (s .sizes) false (x .encoder) .1 } })
-        sends x e = record {
-          few = g .few;
-          idle = g .idle;
-          matched = rehand (f .state .current) x _ refl refl (subst (Matched (f .state .current)) e (g .matched));
-          window = read-window (s .window) (x .part) (s .sizes) false (x .encoder) (subst (IfGiven (λ (h : FdtHand). length (h .encoder .window) ≤ s .window)) e (g .window));
-          weight = g .weight;
-        }
-
-        go : (h : Option FdtHand) → f .hand ≡ h → Held (maybe (record { taken = t; packet = none; fdt = f }) (λ (x : FdtHand).
-            let r = read (s .window) (x .part) (s .sizes) false (x .encoder) in
-            maybe (again t (record { state = fdt-done now (f .state); hand = none }))
-            (λ y. record {
-              taken = t;
-              packet = some record { id = some (x .id); toi = 0; symbol = y };
-              fdt = record { state = f .state; hand = some record { id = x .id; part = x .part; encoder = r .1 } };
-            })
-            (r .0)) h)
-        go none e = g
-        go (some x) e =
-            let r = read (s .window) (x .part) (s .sizes) false (x .encoder) in
-            elim (r .0) as (λ (y : Option Symbol). Held (maybe (again t (record { state = fdt-done now (f .state); hand = none })) (λ y. record {
-              taken = t;
-              packet = some record { id = some (x .id); toi = 0; symbol = y };
-              fdt = record { state = f .state; hand = some record { id = x .id; part = x .part; encoder = r .1 } };
-            }) y)) [
-              | none ↦ h-again t (record { state = fdt-done now (f .state); hand = none }) (from-rest draft t (fdt-done now (f .state)) (done-resting draft t f g))
-              | some y ↦ sends x e
-            ]
-
-    attempt-going : (t : Bool) (f : Fdt) → Going draft t f → (let r = fdt-attempt s now draft again t f in Going draft (r .taken) (r .fdt))
-    unfolding fdt-attempt
-    attempt-going t f g = go (f .hand) refl
-      where
-        Held : FdtTurn → Type 0
-        Held r = Going draft (r .taken) (r .fdt)
-
-        go : (h : Option FdtHand) → f .hand ≡ h → (let n = next-fdt s now (offered draft t) (f .state) in
-            Held (if given h then fdt-send s now t again f else fdt-send s now (t || n .taken) again (record { state = n .state; hand = handed (n .starts) })))
-        go none e = (let n = next-fdt s now (offered draft t) (f .state) in
-            send-going (t || n .taken) (record { state = n .state; hand = handed (n .starts) }) (next-going draft t (f .state) (at-rest draft t f e g)))
-        go (some h) e = send-going t f g
-
   run-going : (draft : Option Part) (f : Fdt) → Going draft false f → (let r = fdt-run s now draft f in Going draft (r .taken) (r .fdt))
-  unfolding fdt-run
-  run-going draft f g = attempt-going draft (fdt-attempt s now draft fdt-idle) (attempt-going draft fdt-idle (λ t f g. g)) false f g
+  unfolding fdt-sent
+  run-going draft f g = fdt-run-goes s now draft (Going draft) (λ (r : FdtTurn). Going draft (r .taken) (r .fdt)) (record {
+    rests = λ t f g. g;
+    sends = λ t f h y g. record {
+      few = g .few;
+      idle = g .idle;
+      matched = rehand (f .current) h _ refl refl (g .matched);
+      window = read-window (s .window) (h .part) (s .sizes) false (h .encoder) (g .window);
+      weight = g .weight;
+    };
+    ends = λ t f h g. from-rest draft t (fdt-done now f) (done-resting draft t _ g);
+    asks = λ t f e g. next-going draft t (f .state) (at-rest draft t f e g);
+  }) f g
 
 -- ---- every call keeps the FDT side
 

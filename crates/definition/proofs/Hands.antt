@@ -20,11 +20,12 @@ use Rattle.lifecycle.specs.Lifecycle.{may-start, too-early}
 use Rattle.lifecycle.specs.Setup.{Setup}
 use Rattle.definition.specs.Encoder.{Open, Encoder, Symbol, opened, drained, fill, wrapped, emptied, without, advanced, symbol-of, visit, stopping, read}
 use Rattle.definition.specs.FdtSession.{fdt-published, fdt-run}
-use Rattle.definition.specs.Session.{Object, Hand, Session, startable, begin, put-back, forced, Turn, idle, sent, serve, go-on, take-on, file-run}
-use Rattle.definition.specs.Desk.{Desk, Call, Answer, opening, is, moved, numbered, with-fdt, in-hand, marked, marked-hand, all-published, reserved, admitted, not-loose, full, reserve-refusal, release-refusal, add-refusal, publish-refusal, draft-refusal, draft-of, ran, fdt-queued, fdt-ran, step, Touch, touched-hand, touched}
+use Rattle.definition.specs.Session.{Object, Hand, Session, startable, begin, forced, Turn, sent, file-run}
+use Rattle.definition.specs.Desk.{Desk, Call, Answer, opening, moved, numbered, with-fdt, in-hand, marked, marked-hand, all-published, reserved, admitted, reserve-refusal, release-refusal, add-refusal, publish-refusal, draft-refusal, draft-of, ran, fdt-queued, fdt-ran, step, Touch, touched-hand, touched}
 use Rattle.definition.specs.TotalPromises.{IfGiven, InHands}
 use Rattle.definition.proofs.Refused.{either, kept}
 use Rattle.definition.proofs.Touches.{touched-hand-kept}
+use Rattle.definition.proofs.Runs.{run-goes}
 
 -- ---- the window of an encoder
 
@@ -74,40 +75,17 @@ read-window w c z force x h = either (λ (r : Option Symbol × Encoder). length 
 
 -- ---- a file session's run
 
-module _ (s : Setup) (p now : ℕ) where
-  module _ (again : List Object → Turn) (h-again : (q : List Object) → IfGiven (InHands s p) (again q .hand)) where
-    serve-hand : (q : List Object) (h : Hand) → InHands s p h → IfGiven (InHands s p) (serve s now again q h .hand)
-    unfolding serve sent
-    serve-hand q h u =
-        let r = read (s .window) (h .object .part) (h .object .sizes) (forced h) (h .encoder) in
-        elim (too-early now (h .pace)) as (λ t. IfGiven (InHands s p) ((if t then idle q (some h) else maybe (again (put-back now h q)) (sent q h (r .1)) (r .0)) .hand)) [
-          | true ↦ u
-          | false ↦ elim (r .0) as (λ (y : Option Symbol). IfGiven (InHands s p) (maybe (again (put-back now h q)) (sent q h (r .1)) y .hand)) [
-            | none ↦ h-again (put-back now h q)
-            | some y ↦ record { priority = u .priority; window = read-window (s .window) (h .object .part) (h .object .sizes) (forced h) (h .encoder) (u .window) }
-          ]
-        ]
-
-    go-on-hand : (b : Bool) (q : List Object) (h : Hand) → InHands s p h → IfGiven (InHands s p) (go-on s now b again q h .hand)
-    unfolding go-on
-    go-on-hand true q h u = u
-    go-on-hand false q h u = serve-hand q h u
-
-    take-on-hand : (b : Bool) (q : List Object) → IfGiven (InHands s p) (take-on s p now b again q .hand)
-    unfolding take-on begin startable
-    take-on-hand b q = go (find (startable p now) q) refl
-      where
-        go : (x : Option Object) → find (startable p now) q ≡ x → IfGiven (InHands s p) (maybe (idle q none) (λ o. go-on s now b again (drop-first (startable p now) q) (begin now o)) x .hand)
-        go none e = tt
-        go (some o) e = go-on-hand b (drop-first (startable p now) q) (begin now o) (record {
-          priority = eqb-true (o .priority) p (and-left (eqb (o .priority) p) (may-start (o .plan) now (o .life)) (found (startable p now) q o e));
-          window = omega arith;
-        })
-
-  file-run-hand : (b : Bool) (q : List Object) (h : Option Hand) → IfGiven (InHands s p) h → IfGiven (InHands s p) (file-run s p now b q h .hand)
-  unfolding file-run
-  file-run-hand b q none u = take-on-hand (λ q′. idle q′ none) (λ q′. tt) b q
-  file-run-hand b q (some h) u = go-on-hand (take-on s p now b (λ q′. idle q′ none)) (λ q′. take-on-hand (λ q″. idle q″ none) (λ q″. tt) b q′) b q h u
+file-run-hand : (s : Setup) (p now : ℕ) (b : Bool) (q : List Object) (h : Option Hand) → IfGiven (InHands s p) h → IfGiven (InHands s p) (file-run s p now b q h .hand)
+unfolding sent begin startable
+file-run-hand s p now b q h u = run-goes s p now b (λ q h. IfGiven (InHands s p) h) (λ (t : Turn). IfGiven (InHands s p) (t .hand)) (record {
+  rests = λ q h i. i;
+  sends = λ q h y i. record { priority = i .priority; window = read-window (s .window) (h .object .part) (h .object .sizes) (forced h) (h .encoder) (i .window) };
+  ends = λ q h i. tt;
+  takes = λ q o e i. record {
+    priority = eqb-true (o .priority) p (and-left (eqb (o .priority) p) (may-start (o .plan) now (o .life)) (found (startable p now) q o e));
+    window = omega arith;
+  };
+}) q h u
 
 -- ---- every call
 

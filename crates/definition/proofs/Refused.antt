@@ -8,7 +8,7 @@ use Rattle.sizes.specs.Words.{if_then_else_, maybe, given, at, first-of}
 use Rattle.sizes.specs.declared.refusal.Refusal.the-variants as Because
 use Rattle.sizes.specs.declared.refusal.Refusal.{Refusal}
 use Rattle.definition.specs.Session.{Session}
-use Rattle.definition.specs.Desk.{Desk, Question, Call, Answer, full, not-loose, reserve-refusal, release-refusal, add-refusal, publish-refusal, draft-refusal, Result, unless, answer-to, ran, step, unloosed, fdt-queued, fdt-ran}
+use Rattle.definition.specs.Desk.{Desk, Question, Call, Answer, reserve-refusal, release-refusal, add-refusal, publish-refusal, draft-refusal, Result, unless, answer-to, ran, step, unloosed, fdt-queued, fdt-ran}
 use Rattle.definition.specs.Apart.{number-in, refusal-in}
 use Rattle.definition.specs.Promises.{RefusedStays}
 

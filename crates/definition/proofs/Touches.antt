@@ -6,7 +6,6 @@ use mathlib.Core.List.{List, [], _∷_}
 use Prim.Native.Nat.{ℕ}
 use Rattle.sizes.specs.Words.{if_then_else_, maybe, over, collect, Each}
 use Rattle.lifecycle.specs.Lifecycle.{Life, triggered}
-use Rattle.definition.specs.Encoder.{Encoder}
 use Rattle.definition.specs.Session.{Object, Hand, living}
 use Rattle.definition.specs.Desk.{Touch, is, waiting-after, hand-after, touched-waiting, touched-hand}
 use Rattle.definition.proofs.Refused.{either}

@@ -12,13 +12,13 @@ use Rattle.sizes.specs.declared.refusal.Refusal.the-variants as Because
 use Rattle.sizes.proofs.Tests.{none≢some}
 use Rattle.lifecycle.specs.Lifecycle.{Life, announced, triggered, too-early, expired, finished, started}
 use Rattle.lifecycle.specs.Setup.{Setup}
-use Rattle.definition.specs.Encoder.{Symbol, read}
 use Rattle.definition.specs.FdtSession.{fdt-published, fdt-run}
-use Rattle.definition.specs.Session.{Object, Hand, Session, living, startable, begin, put-back, forced, Turn, idle, sent, serve, go-on, take-on, file-run}
-use Rattle.definition.specs.Desk.{Desk, Request, Call, Answer, opening, in-hands, objects, is, moved, numbered, with-fdt, in-hand, marked, marked-hand, all-published, reserved, toi-for, made, admitted, not-loose, full, reserve-refusal, release-refusal, add-refusal, publish-refusal, draft-refusal, draft-of, ran, fdt-queued, fdt-ran, step, Touch, touched-waiting, touched-hand, touched}
+use Rattle.definition.specs.Session.{Object, Hand, Session, living, startable, begin, put-back, Turn, sent, file-run}
+use Rattle.definition.specs.Desk.{Desk, Request, Call, Answer, opening, in-hands, objects, moved, numbered, with-fdt, in-hand, marked, marked-hand, all-published, reserved, toi-for, made, admitted, reserve-refusal, release-refusal, add-refusal, publish-refusal, draft-refusal, draft-of, ran, fdt-queued, fdt-ran, step, Touch, touched-waiting, touched-hand, touched}
 use Rattle.definition.specs.Apart.{adding}
 use Rattle.definition.proofs.Refused.{either, kept}
 use Rattle.definition.proofs.Touches.{Waiting, gone, lives, touched-kept, touched-hand-kept}
+use Rattle.definition.proofs.Runs.{run-goes}
 
 -- ---- sums over lists
 
@@ -165,40 +165,14 @@ module _ (w : Object → ℕ) where
         (let a = total-append w q (o ∷ []) in let b = stable (finished now (h .object .life)) (h .object) in omega arith) (omega arith)
 
     -- a turn keeps or drops objects, and makes none
-    module _ (s : Setup) (now : ℕ) (again : List Object → Turn) (h-again : (q : List Object) → weight (again q) ≤ total w q) where
-      serve-weight : (q : List Object) (h : Hand) → weight (serve s now again q h) ≤ total w q + w (h .object)
-      unfolding serve sent
-      serve-weight q h =
-          let r = read (s .window) (h .object .part) (h .object .sizes) (forced h) (h .encoder) in
-          elim (too-early now (h .pace)) as (λ t. weight (if t then idle q (some h) else maybe (again (put-back now h q)) (sent q h (r .1)) (r .0)) ≤ total w q + w (h .object)) [
-            | true ↦ omega arith
-            | false ↦ elim (r .0) as (λ (y : Option Symbol). weight (maybe (again (put-back now h q)) (sent q h (r .1)) y) ≤ total w q + w (h .object))
-                [ none ↦ (let a = h-again (put-back now h q) in let b = back-weight now h q in omega arith) | some y ↦ omega arith ]
-          ]
-
-      go-on-weight : (b : Bool) (q : List Object) (h : Hand) → weight (go-on s now b again q h) ≤ total w q + w (h .object)
-      unfolding go-on
-      go-on-weight true q h = omega arith
-      go-on-weight false q h = serve-weight q h
-
-      take-on-weight : (p : ℕ) (b : Bool) (q : List Object) → weight (take-on s p now b again q) ≤ total w q
-      unfolding take-on begin
-      take-on-weight p b q = go (find (startable p now) q) refl
-        where
-          go : (x : Option Object) → find (startable p now) q ≡ x
-              → weight (maybe (idle q none) (λ o. go-on s now b again (drop-first (startable p now) q) (begin now o)) x) ≤ total w q
-          go none e = omega arith
-          go (some o) e =
-              let a = go-on-weight b (drop-first (startable p now) q) (begin now o) in
-              let c = total-take w (startable p now) q o e in
-              let k = stable (started (o .plan) now (o .life)) o in omega arith
-
     file-run-weight : (s : Setup) (p now : ℕ) (b : Bool) (q : List Object) (h : Option Hand) → weight (file-run s p now b q h) ≤ total w q + load h
-    unfolding file-run
-    file-run-weight s p now b q none =
-        let a = take-on-weight s now (λ q′. idle q′ none) (λ q′. omega arith) p b q in omega arith
-    file-run-weight s p now b q (some h) =
-        go-on-weight s now (take-on s p now b (λ q′. idle q′ none)) (λ q′. take-on-weight s now (λ q″. idle q″ none) (λ q″. omega arith) p b q′) b q h
+    unfolding sent begin
+    file-run-weight s p now b q₀ h₀ = run-goes s p now b (λ q h. total w q + load h ≤ total w q₀ + load h₀) (λ t. weight t ≤ total w q₀ + load h₀) (record {
+      rests = λ q h i. i;
+      sends = λ q h y i. i;
+      ends = λ q h i. (let a = back-weight now h q in omega arith);
+      takes = λ q o e i. (let c = total-take w (startable p now) q o e in let k = stable (started (o .plan) now (o .life)) o in omega arith);
+    }) q₀ h₀ (omega arith)
 
     published-lighter : (d : Desk) → total w (objects (all-published d)) ≤ total w (objects d)
     unfolding all-published marked marked-hand
