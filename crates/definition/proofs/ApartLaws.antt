@@ -18,7 +18,7 @@ use Rattle.lifecycle.specs.Fdt.{Instance, next-fdt, fdt-done}
 use Rattle.definition.specs.FdtSession.{Fdt, FdtTurn, Packet, fdt-published, fdt-run, fdt-sent}
 use Rattle.definition.specs.Session.{Object, Hand, Session, Turn, file-run}
 use Rattle.definition.specs.Desk.{Desk, Request, Call, Answer, opening, in-hands, objects, numbers, is, listed-in-hands, listed-as, moved, numbered, with-fdt, in-hand, marked, marked-hand, all-published, reserved, toi-for, made, admitted, own-sizes, no-session, bad-object-part, not-loose, no-room, reserve-refusal, release-refusal, add-refusal, publish-refusal, draft-refusal, draft-of, Result, unless, ran, step, unloosed, fdt-queued, fdt-ran, Touch, Question, waiting-after, hand-after, touched-waiting, touched-hand, touched, answer-to}
-use Rattle.definition.specs.Apart.{mine, owns, about, noted, key, call-by, packet-by, perhaps-by, answer-by, bars, is-barred, turned-away, calls, answers, smooth, Alike as AlikeRuns, PacketNamed, Named, about-question, question-by}
+use Rattle.definition.specs.Apart.{mine, owns, about, noted, key, call-by, packet-by, perhaps-by, answer-by, bars, is-barred, turned-away, calls, answers, smooth, Alike as AlikeRuns, PacketOf, NumberOf, OwnNumbers, about-question, question-by}
 use Rattle.definition.proofs.Numbers.{Unique, unique-step, unique-opening, tois, admissible}
 use Rattle.definition.proofs.View.{retag, retag-held, seen, see, seen-append, seen-mine, seen-other, Alike, seen-find, seen-map, see-turn, Sends, file-run-seen}
 use Rattle.definition.proofs.Known.{Noted, HeldFits, Fits, PacketNoted, Known, file-run-known, file-run-other, known-step, known-opening}
@@ -710,63 +710,53 @@ alike s p w l m hl hm e = alone l hl ∙ ap (own-run s (view p [] (opening s))) 
     alone : (l : List Call) → smooth s p (opening s) l ≡ true → answers s p [] (opening s) l ≡ own-run s (view p [] (opening s)) (calls s p [] (opening s) l)
     alone l h = answered-alone s p w [] (opening s) l (unique-opening s w) (known-opening p s) h
 
-key-above : (j : List ℕ) (t : ℕ) → has t j ≡ true → 1 ≤ key j t
-key-above [] t e = absurd (false≢true e)
-key-above (u ∷ j) t e = (elim (eqb u t) as (λ b. (b || has t j) ≡ true → 1 ≤ (if b then suc (length j) else key j t))
-    [ true ↦ λ e. omega arith | false ↦ λ e. key-above j t e ]) e
+packet-own : (p : ℕ) (j : List ℕ) (r : ℕ) (k : Option Packet) → eqb r p ≡ true → PacketNoted p j r k → PacketOf j k
+packet-own p j r none e u = tt
+packet-own p j r (some k) e u = λ z. u e
 
-packet-named : (p : ℕ) (j : List ℕ) (r : ℕ) (k : Option Packet) → eqb r p ≡ true → PacketNoted p j r k → PacketNamed (perhaps-by (key j) k)
-packet-named p j r none e u = tt
-packet-named p j r (some k) e u = λ z. rw z (key-above j (k .toi) (u e))
-
-fdt-named : (f : ℕ → ℕ) (k : Option Packet) → FdtPacket k → PacketNamed (perhaps-by f k)
-fdt-named f none u = tt
-fdt-named f (some k) u = λ z. absurd (true≢false (sym u ∙ z))
+fdt-own : (j : List ℕ) (k : Option Packet) → FdtPacket k → PacketOf j k
+fdt-own j none u = tt
+fdt-own j (some k) u = λ z. absurd (true≢false (sym u ∙ z))
 
 -- a question names no packet
-answer-named : (f : ℕ → ℕ) (d : Desk) (q : Question) → Named (answer-by f (answer-to d q))
-answer-named f d (Question.listed t) = tt
-answer-named f d (Question.transfers t) = tt
+answer-own : (j : List ℕ) (d : Desk) (q : Question) → NumberOf j (answer-to d q)
+answer-own j d (Question.listed t) = tt
+answer-own j d (Question.transfers t) = tt
 
 -- a call of the priority
-named-step : (p : ℕ) (j : List ℕ) (s : Setup) (d : Desk) (c : Call) → Known p j d → about p d c ≡ true → Named (answer-by (key (noted p c (step s d c .0) j)) (step s d c .0))
+number-step : (p : ℕ) (j : List ℕ) (s : Setup) (d : Desk) (c : Call) → Known p j d → about p d c ≡ true → NumberOf (noted p c (step s d c .0) j) (step s d c .0)
 unfolding step about ran fdt-ran
-named-step p j s d Call.reserve k e = absurd (false≢true e)
-named-step p j s d (Call.release t) k e = absurd (false≢true e)
-named-step p j s d (Call.add named q) k e = go (add-refusal s d named q)
+number-step p j s d Call.reserve k e = absurd (false≢true e)
+number-step p j s d (Call.release t) k e = absurd (false≢true e)
+number-step p j s d (Call.add named q) k e = go (add-refusal s d named q)
   where
-    go : (x : Option Refusal) → Named (answer-by (key (noted p (Call.add named q) (unless x d (add-result s d named q) .0) j)) (unless x d (add-result s d named q) .0))
+    go : (x : Option Refusal) → NumberOf (noted p (Call.add named q) (unless x d (add-result s d named q) .0) j) (unless x d (add-result s d named q) .0)
     go none = tt
     go (some n) = tt
-named-step p j s d (Call.touch t x) k e = tt
-named-step p j s d (Call.ask q) k e = answer-named (key j) d q
-named-step p j s d Call.complete k e = tt
-named-step p j s d (Call.publish now c) k e = go (publish-refusal s (d .fdt) c)
+number-step p j s d (Call.touch t x) k e = tt
+number-step p j s d (Call.ask q) k e = answer-own j d q
+number-step p j s d Call.complete k e = tt
+number-step p j s d (Call.publish now c) k e = go (publish-refusal s (d .fdt) c)
   where
-    go : (x : Option Refusal) → Named (answer-by (key j) (unless x d (Answer.done, all-published (with-fdt d (fdt-published now c (d .fdt)))) .0))
+    go : (x : Option Refusal) → NumberOf j (unless x d (Answer.done, all-published (with-fdt d (fdt-published now c (d .fdt)))) .0)
     go none = tt
     go (some n) = tt
-named-step p j s d (Call.run-fdt now draft) k e = go (draft-refusal s (d .fdt) draft)
+number-step p j s d (Call.run-fdt now draft) k e = go (draft-refusal s (d .fdt) draft)
   where
     r : FdtTurn
     r = fdt-run s now (draft-of draft) (d .fdt)
 
-    go : (x : Option Refusal) → Named (answer-by (key j) (unless x d (Answer.fdt-output (r .taken) (r .packet), if r .taken then all-published (with-fdt d (r .fdt)) else with-fdt d (r .fdt)) .0))
-    go none = fdt-named (key j) (r .packet) (fdt-run-packet s now (draft-of draft) (d .fdt))
+    go : (x : Option Refusal) → NumberOf j (unless x d (Answer.fdt-output (r .taken) (r .packet), if r .taken then all-published (with-fdt d (r .fdt)) else with-fdt d (r .fdt)) .0)
+    go none = fdt-own j (r .packet) (fdt-run-packet s now (draft-of draft) (d .fdt))
     go (some n) = tt
-named-step p j s d (Call.run-file i now) k e = go (at (d .sessions) i) refl e
+number-step p j s d (Call.run-file i now) k e = go (at (d .sessions) i) refl e
   where
-    go : (x : Option Session) → at (d .sessions) i ≡ x → maybe false (λ (x : Session). eqb (x .priority) p) x ≡ true → Named (answer-by (key j) (maybe (Answer.refused Because.NoSession, d) (ran s now i d) x .0))
+    go : (x : Option Session) → at (d .sessions) i ≡ x → maybe false (λ (x : Session). eqb (x .priority) p) x ≡ true → NumberOf j (maybe (Answer.refused Because.NoSession, d) (ran s now i d) x .0)
     go none a e = tt
-    go (some x) a e = packet-named p j (x .priority) (file-run s (x .priority) now (fdt-queued d) (d .queue) (x .hand) .packet) e
+    go (some x) a e = packet-own p j (x .priority) (file-run s (x .priority) now (fdt-queued d) (d .queue) (x .hand) .packet) e
         (file-run-known p j (x .priority) s now (fdt-queued d) (d .queue) (x .hand) (k .waiting) (each-at (Fits p j) (d .sessions) i x a (k .serving)) .2)
 
 -- object numbers in the answers are those that the priority's admissions got
-pub answers-named : (s : Setup) (p : ℕ) (j : List ℕ) (d : Desk) (l : List Call) → Known p j d → Each Named (answers s p j d l)
-unfolding answers
-answers-named s p j d [] k = tt
-answers-named s p j d (c ∷ l) k = (elim (about p d c) as (λ b. about p d c ≡ b
-    → Each Named (if b then answer-by (key (noted p c (step s d c .0) j)) (step s d c .0) ∷ answers s p (noted p c (step s d c .0) j) (step s d c .1) l else answers s p (noted p c (step s d c .0) j) (step s d c .1) l)) [
-      | true ↦ λ e. (named-step p j s d c k e, answers-named s p (noted p c (step s d c .0) j) (step s d c .1) l (known-step p j s d c k))
-      | false ↦ λ e. answers-named s p (noted p c (step s d c .0) j) (step s d c .1) l (known-step p j s d c k)
-    ]) refl
+pub own-numbers : (s : Setup) (p : ℕ) (j : List ℕ) (d : Desk) (l : List Call) → Known p j d → OwnNumbers s p j d l
+own-numbers s p j d [] k = tt
+own-numbers s p j d (c ∷ l) k = (λ e. number-step p j s d c k e, own-numbers s p (noted p c (step s d c .0) j) (step s d c .1) l (known-step p j s d c k))

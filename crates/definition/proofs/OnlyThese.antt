@@ -20,7 +20,7 @@ use Rattle.definition.specs.Apart.{owns, about, noted, key, call-by, ans
 use Rattle.lifecycle.proofs.SetupLaws.{told}
 use Rattle.definition.proofs.Numbers.{Unique, unique-step, tois, times-without, admissible, loose-true}
 use Rattle.definition.proofs.Known.{Known, known-step, known-opening}
-use Rattle.definition.proofs.ApartLaws.{got, add-result, alike, hidden, owns-noted, key-below, any-times, answers-named}
+use Rattle.definition.proofs.ApartLaws.{got, add-result, alike, hidden, owns-noted, key-below, any-times, own-numbers}
 use Rattle.definition.proofs.Alone.{Rel, carried, session-there, fewer-there, slots-there, length-tois, add-there, noted-hidden, rel-hidden, both, rel-shown, rel-opening}
 use Rattle.sizes.proofs.Tests.{Tested, pass, fail, tested, and-left, and-right, or-left, or-right, none≢some}
 use Rattle.sizes.proofs.Lists.{map-append, times-append, has-times, times-has}
@@ -715,7 +715,7 @@ module _ (s : Setup) (p : ℕ) (w : 16 ≤ s .width) where
       record { lone-smooth = r .0; same-calls = r .1; same-answers = alike s p w l (lone s p l) h (r .0) (sym (r .1)) }
 
 pub demand-3 : (s : Setup) (p : ℕ) → 16 ≤ s .width → Demand-3 s p
-demand-3 s p w = record { two-runs = alike s p w; only-these-calls = only-these s p w; numbers-got = λ l. answers-named s p [] (opening s) l (known-opening p s) }
+demand-3 s p w = record { two-runs = alike s p w; only-these-calls = only-these s p w; numbers-got = λ l. own-numbers s p [] (opening s) l (known-opening p s) }
 
 pub demand-3-sound : (s : Setup) → sound s ≡ true → (p : ℕ) → Demand-3 s p
 demand-3-sound s h p = demand-3 s p (told s h .width)

@@ -6,7 +6,7 @@ use mathlib.Core.List.{List, [], _∷_}
 use Prim.Native.Nat.{ℕ, suc, _≤_}
 use lib.Dec.{eqb}
 use lib.ListN.{length}
-use Rattle.sizes.specs.Words.{if_then_else_, maybe, given, any, at, has, Each}
+use Rattle.sizes.specs.Words.{if_then_else_, maybe, given, any, at, has}
 use Rattle.sizes.specs.declared.refusal.Refusal.{Refusal}
 use Rattle.sizes.specs.Refusals.{refusal-number}
 use Rattle.lifecycle.specs.Setup.{Setup}
@@ -264,22 +264,32 @@ module _ (s : Setup) (p : ℕ) where
     pub same-calls : calls s p [] (opening s) (lone l) ≡ calls s p [] (opening s) l
     pub same-answers : answers s p [] (opening s) l ≡ answers s p [] (opening s) (lone l)
 
--- the number of an object's packet is one that an admission of the priority got
-abbrev pub PacketNamed : Option Packet → Type 0
-PacketNamed none = Unit {0}
-PacketNamed (some k) = given (k .id) ≡ false → 1 ≤ k .toi
+-- ---- the numbers in a priority's answers
 
-abbrev pub Named : Answer → Type 0
-Named (Answer.output k) = PacketNamed k
-Named (Answer.fdt-output b k) = PacketNamed k
-Named (Answer.refused n) = Unit {0}
-Named (Answer.number t) = Unit {0}
-Named Answer.done = Unit {0}
-Named (Answer.truth b) = Unit {0}
-Named (Answer.transferred n) = Unit {0}
+-- an object's packet has one of the numbers j; an FDT's has 0
+abbrev pub PacketOf : List ℕ → Option Packet → Type 0
+PacketOf j none = Unit {0}
+PacketOf j (some k) = given (k .id) ≡ false → has (k .toi) j ≡ true
+
+abbrev pub NumberOf : List ℕ → Answer → Type 0
+NumberOf j (Answer.output k) = PacketOf j k
+NumberOf j (Answer.fdt-output taken k) = PacketOf j k
+NumberOf j (Answer.refused why) = Unit {0}
+NumberOf j (Answer.number t) = Unit {0}
+NumberOf j Answer.done = Unit {0}
+NumberOf j (Answer.truth b) = Unit {0}
+NumberOf j (Answer.transferred n) = Unit {0}
+
+-- from desk d on, every answer to a call about the priority names only numbers that the priority's admissions got until then, among them j
+abbrev pub OwnNumbers : Setup → ℕ → List ℕ → Desk → List Call → Type 0
+OwnNumbers s p j d [] = Unit {0}
+OwnNumbers s p j d (c ∷ l) =
+    let r = step s d c in
+    let j′ = noted p c (r .0) j in
+    (about p d c ≡ true → NumberOf j′ (r .0)) × OwnNumbers s p j′ (r .1) l
 
 -- ---- demand 3, whole
 pub record Demand-3 (s : Setup) (p : ℕ) : Type 0 where
   pub two-runs : Alike s p
   pub only-these-calls : (l : List Call) → smooth s p (opening s) l ≡ true → Only s p l
-  pub numbers-got : (l : List Call) → Each Named (answers s p [] (opening s) l)
+  pub numbers-got : (l : List Call) → OwnNumbers s p [] (opening s) l
