@@ -8,6 +8,8 @@ use native.Mathlib.Omega.{arith}
 use lib.Dec.{ltb}
 use borrow.Author.Tests.{ltb-true}
 use Rattle.sizes.specs.Words.{if_then_else_, maybe, given, has, place, first-of}
+use Rattle.sizes.specs.declared.refusal.Refusal.{Refusal}
+use Rattle.sizes.specs.declared.refusal.Refusal.the-variants as Because
 use Rattle.sizes.specs.Limits.{toi-entries}
 use Rattle.sizes.specs.Allocator as Alloc
 use Rattle.sizes.specs.declared.partition.Sizes.{Sizes}
@@ -78,18 +80,18 @@ added-view f v q named =
 
 -- ---- refusals 3 to 7, in their order
 
-refused-first : (n : ℕ) (b : Bool) (x y : Added) {o : Option ℕ} → refusal (x .answer) ≡ some n → refusal (y .answer) ≡ o → refusal ((if b then x else y) .answer) ≡ (if b then some n else o)
+refused-first : (n : Refusal) (b : Bool) (x y : Added) {o : Option Refusal} → refusal (x .answer) ≡ some n → refusal (y .answer) ≡ o → refusal ((if b then x else y) .answer) ≡ (if b then some n else o)
 refused-first n true x y e h = e
 refused-first n false x y e h = h
 
 module _ (f : Fdt) (q : Request) where
-  refused-numbered : (z : Sizes) (named : Named) → refusal (numbered-of f q z named .answer) ≡ first-of ((6, unknown named f) ∷ (7, full named f) ∷ [])
+  refused-numbered : (z : Sizes) (named : Named) → refusal (numbered-of f q z named .answer) ≡ first-of ((Because.NotLoose, unknown named f) ∷ (Because.Full, full named f) ∷ [])
   unfolding numbered-of named-of fresh-of
   refused-numbered z (NamedV.Toi t) = go (has t (Alloc.loose (f .tois))) (place is-free (f .slots))
     where
       go : (b : Bool) (o : Option ℕ)
           → refusal ((if b then maybe (refuses f AdmissionV.Full) (λ k. record { answer = AdmissionV.Toi t; fdt = put-of (with-tois f (Alloc.claimed-of t (f .tois) .allocator)) k t q z }) o else refuses f AdmissionV.Unknown) .answer)
-          ≡ first-of ((6, not b) ∷ (7, not (given o)) ∷ [])
+          ≡ first-of ((Because.NotLoose, not b) ∷ (Because.Full, not (given o)) ∷ [])
       go true none = refl
       go true (some k) = refl
       go false o = refl
@@ -97,16 +99,16 @@ module _ (f : Fdt) (q : Request) where
     where
       go : (b : Bool) (o : Option ℕ)
           → refusal (maybe (refuses f AdmissionV.Full) (λ k. if b then record { answer = AdmissionV.Toi (f .tois .next); fdt = put-of (with-tois f (Alloc.allocated-of false (f .tois) .allocator)) k (f .tois .next) q z } else refuses f AdmissionV.Full) o .answer)
-          ≡ first-of ((6, false) ∷ (7, not (given o) || not b) ∷ [])
+          ≡ first-of ((Because.NotLoose, false) ∷ (Because.Full, not (given o) || not b) ∷ [])
       go b none = refl
       go true (some k) = refl
       go false (some k) = refl
 
   pub refusal-view : (named : Named) → refusal (added-of f q named .answer)
-      ≡ first-of ((3, f .complete) ∷ (4, bad-blocks (own-of (q .own) (f .settings .sizes)) (q .part .size)) ∷ (5, bad-part-of f (q .part)) ∷ (6, unknown named f) ∷ (7, full named f) ∷ [])
+      ≡ first-of ((Because.Complete, f .complete) ∷ (Because.Sizes, bad-blocks (own-of (q .own) (f .settings .sizes)) (q .part .size)) ∷ (Because.Part, bad-part-of f (q .part)) ∷ (Because.NotLoose, unknown named f) ∷ (Because.Full, full named f) ∷ [])
   unfolding added-of
   refusal-view named =
       let z = own-of (q .own) (f .settings .sizes) in
-      refused-first 3 (f .complete) (refuses f AdmissionV.Complete) _ refl
-      (refused-first 4 (bad-blocks z (q .part .size)) (refuses f AdmissionV.Sizes) _ refl
-      (refused-first 5 (bad-part-of f (q .part)) (refuses f AdmissionV.Part) _ refl (refused-numbered z named)))
+      refused-first Because.Complete (f .complete) (refuses f AdmissionV.Complete) _ refl
+      (refused-first Because.Sizes (bad-blocks z (q .part .size)) (refuses f AdmissionV.Sizes) _ refl
+      (refused-first Because.Part (bad-part-of f (q .part)) (refuses f AdmissionV.Part) _ refl (refused-numbered z named)))

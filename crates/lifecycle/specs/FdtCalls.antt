@@ -8,6 +8,8 @@ use lib.Dec.{eqb, ltb, leb}
 use lib.ListN.{length, getD, take, set, replicate}
 use Rattle.sizes.specs.Words.{if_then_else_, maybe, given, any, has, place, shut, collect, one-if, times, first-of}
 use Rattle.sizes.specs.Limits.{object-slots, toi-entries, waiting-fdts}
+use Rattle.sizes.specs.declared.refusal.Refusal.{Refusal}
+use Rattle.sizes.specs.declared.refusal.Refusal.the-variants as Because
 use Rattle.sizes.specs.Allocator as Alloc
 use Rattle.sizes.specs.declared.partition.Sizes.{Sizes}
 use Rattle.sizes.specs.declared.toiallocator.ToiAllocator.{ToiAllocator}
@@ -267,18 +269,18 @@ with-announcer f a = record { settings = f .settings; complete = f .complete; to
 -- what a publish says
 abbrev pub publication-said : Publication → Alloc.Said
 publication-said PublicationV.Done = Alloc.Said.done
-publication-said PublicationV.Sizes = Alloc.Said.refused 4
-publication-said PublicationV.Part = Alloc.Said.refused 5
-publication-said PublicationV.Full = Alloc.Said.refused 7
+publication-said PublicationV.Sizes = Alloc.Said.refused Because.Sizes
+publication-said PublicationV.Part = Alloc.Said.refused Because.Part
+publication-said PublicationV.Full = Alloc.Said.refused Because.Full
 
--- what an add's answer says: document 01's number of the refusal; none where the object was admitted
-abbrev pub refusal : Admission → Option ℕ
+-- why an add is refused; none where the object was admitted
+abbrev pub refusal : Admission → Option Refusal
 refusal (AdmissionV.Toi t) = none
-refusal AdmissionV.Complete = some 3
-refusal AdmissionV.Sizes = some 4
-refusal AdmissionV.Part = some 5
-refusal AdmissionV.Unknown = some 6
-refusal AdmissionV.Full = some 7
+refusal AdmissionV.Complete = some Because.Complete
+refusal AdmissionV.Sizes = some Because.Sizes
+refusal AdmissionV.Part = some Because.Part
+refusal AdmissionV.Unknown = some Because.NotLoose
+refusal AdmissionV.Full = some Because.Full
 
 -- publish, refusals 4, 5 and 7 in their order
 unfoldable pub publish-of : ℕ → Part → Fdt → Published
@@ -289,19 +291,19 @@ publish-of now c f =
     else record { answer = PublicationV.Done; fdt = announced f (queued-of now c (f .announcer)) }
 
 -- what the test of a draft says
-abbrev pub draft-said : DraftTest → Option ℕ
+abbrev pub draft-said : DraftTest → Option Refusal
 draft-said DraftTestV.Good = none
-draft-said DraftTestV.Sizes = some 4
-draft-said DraftTestV.Part = some 5
+draft-said DraftTestV.Sizes = some Because.Sizes
+draft-said DraftTestV.Part = some Because.Part
 
 -- a draft of length 0 is none, and is not looked at
 unfoldable pub real-draft : Draft → Draft
 real-draft (DraftV.Given c) = if eqb (c .size) 0 then DraftV.Missing else DraftV.Given c
 real-draft DraftV.Missing = DraftV.Missing
 
-unfoldable pub draft-test-of : Draft → Fdt → Option ℕ
+unfoldable pub draft-test-of : Draft → Fdt → Option Refusal
 draft-test-of DraftV.Missing f = none
-draft-test-of (DraftV.Given c) f = first-of ((4, bad-blocks (f .settings .sizes) (c .size)) ∷ (5, bad-fdt-of (f .settings .«fdt_store») c (f .announcer)) ∷ [])
+draft-test-of (DraftV.Given c) f = first-of ((Because.Sizes, bad-blocks (f .settings .sizes) (c .size)) ∷ (Because.Part, bad-fdt-of (f .settings .«fdt_store») c (f .announcer)) ∷ [])
 
 -- the next FDT; a draft that is taken is published, and so marks every listed object
 unfoldable pub next-fdt-of : ℕ → Draft → Fdt → NextOf

@@ -8,6 +8,8 @@ use lib.Dec.{eqb, ltb}
 use lib.ListN.{length, getD, take, set, replicate}
 use Rattle.sizes.specs.Words.{if_then_else_, maybe, has, place, shut, collect, one-if, times, Each}
 use Rattle.sizes.specs.Limits.{toi-entries}
+use Rattle.sizes.specs.declared.refusal.Refusal.{Refusal}
+use Rattle.sizes.specs.declared.refusal.Refusal.the-variants as Because
 use Rattle.sizes.specs.Toi.{Toi, first-toi, next-toi, FirstFree}
 use Rattle.sizes.specs.declared.toiallocator.ToiMaxLength.{ToiMaxLength}
 use Rattle.sizes.specs.declared.toiallocator.ToiMaxLength.the-variants.{ToiMax16, ToiMax32, ToiMax48, ToiMax64}
@@ -33,19 +35,19 @@ bits ToiMax64 = 64
 abbrev pub Width : ℕ → Type 0
 Width n = (w : ToiMaxLength) × (n ≡ bits w)
 
--- what a call says: a number, that it was done, or the number of its refusal
+-- what a call says: a number, that it was done, or why it is refused
 pub data Said : Type 0 where
   toi : ℕ → Said
   done : Said
-  refused : ℕ → Said
+  refused : Refusal → Said
 
 abbrev pub given-said : Given → Said
 given-said (Number n) = Said.toi n
-given-said Full = Said.refused 7
+given-said Full = Said.refused Because.Full
 
 abbrev pub known-said : Known → Said
 known-said Done = Said.done
-known-said Unknown = Said.refused 6
+known-said Unknown = Said.refused Because.NotLoose
 
 -- an entry that is not in use
 abbrev pub no-entry : Entry
