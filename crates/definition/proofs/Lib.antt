@@ -1,6 +1,7 @@
 -- Proofs of what specs/ promises of the desk. Refusals and rounds; object numbers; one priority apart from the others; examples.
 pub mod Refused
 pub mod Runs
+pub mod Continued
 pub mod Everywhere
 pub mod Rounds
 pub mod FileRounds

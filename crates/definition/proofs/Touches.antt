@@ -1,13 +1,13 @@
 -- What a touch leaves: each touch has a row in three laws here, and every other proof is about all touches at once.
 use mathlib.Core.Path.{_≡_, refl, ap}
-use mathlib.Core.Bool.{Bool, true, false}
+use mathlib.Core.Bool.{Bool, true, false, not}
 use mathlib.Core.Option.{Option, none, some}
-use mathlib.Core.List.{List, [], _∷_}
+use mathlib.Core.List.{List, [], _∷_, map}
 use Prim.Native.Nat.{ℕ}
-use Rattle.sizes.specs.Words.{if_then_else_, maybe, over, collect, Each}
+use Rattle.sizes.specs.Words.{if_then_else_, maybe, over, keep, collect, Each}
 use Rattle.lifecycle.specs.Lifecycle.{Life, triggered}
-use Rattle.definition.specs.Session.{Object, Hand, living}
-use Rattle.definition.specs.Desk.{Touch, is, waiting-after, hand-after, touched-waiting, touched-hand}
+use Rattle.definition.specs.Session.{Object, Hand, Session, living}
+use Rattle.definition.specs.Desk.{Touch, is, in-hand, waiting-after, hand-after, touched-waiting, touched-hand}
 use Rattle.definition.proofs.Refused.{either}
 use Rattle.definition.specs.Apart.{mine}
 use Rattle.definition.proofs.View.{retag, retag-held, seen}
@@ -85,3 +85,31 @@ module _ (g : Object → Option Object) (k : (o : Object) → Waiting o (g o)) w
         go true e y w c r = rw (c e) (rw e (ap (λ z. retag f o ∷ z) r))
         go false e y gone c r = r
         go false e y (lives l) c r = rw e r
+
+-- ---- each touch by itself, for the layer that keeps the list
+
+-- removed: the others stay
+pub removed-waiting : (t : ℕ) (q : List Object) → collect (touched-waiting t Touch.remove) q ≡ keep (λ o. not (is t o)) q
+unfolding touched-waiting
+removed-waiting t [] = refl
+removed-waiting t (o ∷ q) = elim (is t o) as (λ b. maybe (collect (touched-waiting t Touch.remove) q) (λ z. z ∷ collect (touched-waiting t Touch.remove) q) (if b then none else some o) ≡ (if not b then o ∷ keep (λ o. not (is t o)) q else keep (λ o. not (is t o)) q))
+    [ true ↦ removed-waiting t q | false ↦ ap (λ r. o ∷ r) (removed-waiting t q) ]
+
+-- triggered: one that waits, and none in transfer
+unfoldable pub prompted : ℕ → Option ℕ → Object → Object
+prompted t f o = if is t o then living (triggered f (o .life)) o else o
+
+pub prompted-waiting : (t : ℕ) (f : Option ℕ) (q : List Object) → collect (touched-waiting t (Touch.trigger f)) q ≡ map (prompted t f) q
+unfolding touched-waiting prompted
+prompted-waiting t f [] = refl
+prompted-waiting t f (o ∷ q) = elim (is t o) as (λ b. maybe (collect (touched-waiting t (Touch.trigger f)) q) (λ z. z ∷ collect (touched-waiting t (Touch.trigger f)) q) (if b then some (living (triggered f (o .life)) o) else some o) ≡ (if b then living (triggered f (o .life)) o else o) ∷ map (prompted t f) q)
+    [ true ↦ ap (λ r. living (triggered f (o .life)) o ∷ r) (prompted-waiting t f q) | false ↦ ap (λ r. o ∷ r) (prompted-waiting t f q) ]
+
+pub prompted-hands : (t : ℕ) (f : Option ℕ) (l : List Session) → map (in-hand (touched-hand t (Touch.trigger f))) l ≡ l
+unfolding in-hand touched-hand
+prompted-hands t f [] = refl
+prompted-hands t f (x ∷ l) = λ i. record { priority = x .priority; hand = same (x .hand) i } ∷ prompted-hands t f l i
+  where
+    same : (h : Option Hand) → maybe none (λ h. some (if is t (h .object) then h else h)) h ≡ h
+    same none = refl
+    same (some h) = elim (is t (h .object)) as (λ b. some (if b then h else h) ≡ some h) [ true ↦ refl | false ↦ refl ]

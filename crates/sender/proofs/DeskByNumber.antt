@@ -116,7 +116,7 @@ removed-stays s v t =
     }
 
 pub remove-kept : (s : Sender) (t : ℕ) → Valid s → Holds (removing-of t s .sender .fdt) → FdtHolds (removing-of t s .sender .fdt)
-    → Kept s (Def.Call.remove t) (Def.Answer.truth (removing-of t s .yes)) (removing-of t s .sender)
+    → Kept s (Def.Call.touch t Def.Touch.remove) (Def.Answer.truth (removing-of t s .yes)) (removing-of t s .sender)
 unfolding removing-of Def.step
 remove-kept s t v a b =
     let f = s .fdt in
@@ -177,7 +177,7 @@ triggered-stays s v t start =
     }
 
 pub trigger-kept : (s : Sender) (t : ℕ) (start : Time) → Valid s → Holds (prompting-of t start s .sender .fdt) → FdtHolds (prompting-of t start s .sender .fdt)
-    → Kept s (Def.Call.trigger t (time-of start)) (Def.Answer.truth (prompting-of t start s .yes)) (prompting-of t start s .sender)
+    → Kept s (Def.Call.touch t (Def.Touch.trigger (time-of start))) (Def.Answer.truth (prompting-of t start s .yes)) (prompting-of t start s .sender)
 unfolding prompting-of Def.step
 trigger-kept s t start v a b =
     let f = s .fdt in

@@ -1,4 +1,6 @@
 -- A run of the FDT session under the sender: what is in hand is what is being transferred, and a draft that is taken marks every listed object; its refusals.
+use Rattle.sizes.specs.declared.refusal.Refusal.{Refusal}
+use Rattle.sizes.specs.declared.refusal.Refusal.the-variants as Because
 use mathlib.Core.Path.{_≡_, refl, sym, _∙_, ap, subst}
 use mathlib.Core.Bool.{Bool, true, false, _&&_, _||_}
 use mathlib.Core.Option.{Option, none, some}
@@ -248,23 +250,23 @@ unfolding Def.draft-refusal draft-test-of desk-of
 refusal-view u s g draft = ap (maybe none said) (draft-view draft) ∙ by (real-draft draft)
   where
     said : Part → Option ℕ
-    said c = first-of ((4, bad-blocks (u .sizes) (c .size)) ∷ (5, bad-fdt-part u (state-of (s .fdt .announcer)) c) ∷ [])
+    said c = first-of ((Because.Sizes, bad-blocks (u .sizes) (c .size)) ∷ (Because.Part, bad-fdt-part u (state-of (s .fdt .announcer)) c) ∷ [])
 
     by : (d : Draft) → maybe none said (draft-given d) ≡ draft-test-of d (s .fdt)
     by Missing = refl
-    by (Given c) = λ i. first-of ((4, bad-blocks (g .sizes i) (c .size)) ∷ (5, sym (bad-said c u (s .fdt .settings .«fdt_store») (s .fdt .announcer) (g .fdt-store)) i) ∷ [])
+    by (Given c) = λ i. first-of ((Because.Sizes, bad-blocks (g .sizes i) (c .size)) ∷ (Because.Part, sym (bad-said c u (s .fdt .settings .«fdt_store») (s .fdt .announcer) (g .fdt-store)) i) ∷ [])
 
 -- the answer says the refusal
 abbrev Told : Option ℕ → Type 0
 Told none = Unit {0}
-Told (some n) = Def.Answer.refused n ≡ fdt-answer false (if eqb n 4 then RunV.Sizes else RunV.Part)
+Told (some n) = Def.Answer.refused n ≡ fdt-answer false (RunV.Refused n)
 
 test-told : (d : Draft) (f : Fdt) → Told (draft-test-of d f)
 unfolding draft-test-of
 test-told Missing f = tt
 test-told (Given c) f = by (bad-blocks (f .settings .sizes) (c .size)) (bad-fdt-of (f .settings .«fdt_store») c (f .announcer))
   where
-    by : (a b : Bool) → Told (first-of ((4, a) ∷ (5, b) ∷ []))
+    by : (a b : Bool) → Told (first-of ((Because.Sizes, a) ∷ (Because.Part, b) ∷ []))
     by true b = refl
     by false true = refl
     by false false = tt
@@ -327,7 +329,7 @@ module _ (s : Sender) (now : ℕ) (draft : Draft) (v : Valid s) where
               (ran-matched (s .window) now (real-draft draft) (s .fdt) (s .«fdt_session») (v .holds .valid) (v .matched));
         }
 
-  run-refused : (n : ℕ) → draft-test-of (real-draft draft) (s .fdt) ≡ some n → (a : Def.Answer) → Def.Answer.refused n ≡ a → Kept s (Def.Call.run-fdt now (draft-given draft)) a s
+  run-refused : (n : Refusal) → draft-test-of (real-draft draft) (s .fdt) ≡ some n → (a : Def.Answer) → Def.Answer.refused n ≡ a → Kept s (Def.Call.run-fdt now (draft-given draft)) a s
   unfolding Def.step
   run-refused n e a t = record {
     means = λ u g. (λ i. Def.unless ((refusal-view u s g draft ∙ e) i) (desk-of s) (Def.fdt-ran u now (Def.draft-of (draft-given draft)) (desk-of s))) ∙ (λ i. (t i, desk-of s));
@@ -341,7 +343,7 @@ pub run-fdt-kept : (s : Sender) (now : ℕ) (draft : Draft) → Valid s
 unfolding fdt-running-of
 run-fdt-kept s now draft v = by (draft-test-of (real-draft draft) (s .fdt)) refl (test-told (real-draft draft) (s .fdt))
   where
-    by : (o : Option ℕ) → draft-test-of (real-draft draft) (s .fdt) ≡ o → Told o
+    by : (o : Option Refusal) → draft-test-of (real-draft draft) (s .fdt) ≡ o → Told o
         → (let r = fdt-running-by now (real-draft draft) s o in Kept s (Def.Call.run-fdt now (draft-given draft)) (fdt-answer (r .taken) (r .answer)) (r .sender))
     by none e t = run-done s now draft v e
     by (some n) e t = run-refused s now draft v n e _ t

@@ -64,7 +64,7 @@ module _ (s : Sender) (v : Valid s) (t : ℕ) where
       go none = refl
       go (some k) = refl
 
-  pub listed-kept : Kept s (Call.listed t) (Answer.truth (is-added-of t (s .fdt))) s
+  pub listed-kept : Kept s (Call.ask (Question.listed t)) (Answer.truth (is-added-of t (s .fdt))) s
   unfolding step is-added-of
   listed-kept = record { means = λ u w. ap (λ b. (Answer.truth b, desk-of s)) listed-answer; agrees = λ u w. w; valid = v }
 
@@ -79,6 +79,6 @@ module _ (s : Sender) (v : Valid s) (t : ℕ) where
       go none = refl
       go (some o) = refl
 
-  pub transfers-kept : Kept s (Call.transfers t) (Answer.transferred (transfers-of t (s .fdt))) s
+  pub transfers-kept : Kept s (Call.ask (Question.transfers t)) (Answer.transferred (transfers-of t (s .fdt))) s
   unfolding step
   transfers-kept = record { means = λ u w. ap (λ n. (Answer.transferred n, desk-of s)) transfers-answer; agrees = λ u w. w; valid = v }

@@ -1,4 +1,5 @@
 -- The calls that change only numbers, or that the list is complete: reserve, release, complete.
+use Rattle.sizes.specs.declared.refusal.Refusal.the-variants as Because
 use mathlib.Core.Path.{_≡_, refl, sym, _∙_, ap}
 use mathlib.Core.Bool.{Bool, true, false, not, false≢true}
 use mathlib.Core.List.{[], _∷_}
@@ -84,11 +85,11 @@ after-reserve s x = (alloc-answer (Alloc.given-said (x .answer)), desk-of (with-
 
 module _ (s : Sender) (v : Valid s) (u : Setup) (w : Agrees u s) where
   -- refused or not, by the test that the allocator makes
-  reserve-tested : (b : Bool) → ltb (s .fdt .tois .entered) toi-entries ≡ b → step u (desk-of s) Call.reserve ≡ (if b then (Answer.number (s .fdt .tois .next), reserved u (desk-of s)) else (Answer.refused 7, desk-of s))
+  reserve-tested : (b : Bool) → ltb (s .fdt .tois .entered) toi-entries ≡ b → step u (desk-of s) Call.reserve ≡ (if b then (Answer.number (s .fdt .tois .next), reserved u (desk-of s)) else (Answer.refused Because.Full, desk-of s))
   unfolding step desk-of
   reserve-tested b e =
-      ap (λ x. unless (first-of ((7, x) ∷ [])) (desk-of s) (Answer.number (s .fdt .tois .next), reserved u (desk-of s))) (full-view s v ∙ ap not e)
-      ∙ elim b as (λ x. unless (first-of ((7, not x) ∷ [])) (desk-of s) (Answer.number (s .fdt .tois .next), reserved u (desk-of s)) ≡ (if x then (Answer.number (s .fdt .tois .next), reserved u (desk-of s)) else (Answer.refused 7, desk-of s)))
+      ap (λ x. unless (first-of ((Because.Full, x) ∷ [])) (desk-of s) (Answer.number (s .fdt .tois .next), reserved u (desk-of s))) (full-view s v ∙ ap not e)
+      ∙ elim b as (λ x. unless (first-of ((Because.Full, not x) ∷ [])) (desk-of s) (Answer.number (s .fdt .tois .next), reserved u (desk-of s)) ≡ (if x then (Answer.number (s .fdt .tois .next), reserved u (desk-of s)) else (Answer.refused Because.Full, desk-of s)))
       [ true ↦ refl | false ↦ refl ]
 
   reserve-room : s .fdt .tois .entered < toi-entries → (Answer.number (s .fdt .tois .next), reserved u (desk-of s)) ≡ after-reserve s (Alloc.allocated-of true (s .fdt .tois))
@@ -108,7 +109,7 @@ module _ (s : Sender) (v : Valid s) (u : Setup) (w : Agrees u s) where
       }) in
       (λ i. (Answer.number (a .next), d i)) ∙ sym (λ i. (alloc-answer (Alloc.given-said (q i)), desk-of (with-list s (with-tois (s .fdt) (r i)))))
 
-  reserve-full : toi-entries ≤ s .fdt .tois .entered → (Answer.refused 7, desk-of s) ≡ after-reserve s (Alloc.allocated-of true (s .fdt .tois))
+  reserve-full : toi-entries ≤ s .fdt .tois .entered → (Answer.refused Because.Full, desk-of s) ≡ after-reserve s (Alloc.allocated-of true (s .fdt .tois))
   reserve-full h = ap (after-reserve s) (full-by (s .fdt .tois) true h)
 
   reserve-means : step u (desk-of s) Call.reserve ≡ after-reserve s (Alloc.allocated-of true (s .fdt .tois))
@@ -155,14 +156,14 @@ module _ (s : Sender) (v : Valid s) (u : Setup) (t : ℕ) where
         sessions = desk-of s .sessions;
         fdt = desk-of s .fdt;
       }) in
-      ap (λ b. unless (first-of ((6, not b) ∷ [])) (desk-of s) (Answer.done, numbered (desk-of s) (a .next) (unloosed t (Alloc.loose a)))) h
+      ap (λ b. unless (first-of ((Because.NotLoose, not b) ∷ [])) (desk-of s) (Answer.done, numbered (desk-of s) (a .next) (unloosed t (Alloc.loose a)))) h
       ∙ (λ i. (alloc-answer (Alloc.known-said (sym (released-some t a h) i)), d i))
 
   release-none : has t (Alloc.loose (s .fdt .tois)) ≡ false → step u (desk-of s) (Call.release t) ≡ after-release s (Alloc.dropped-of true t (s .fdt .tois))
   unfolding step not-loose desk-of
   release-none h =
       let a = s .fdt .tois in
-      ap (λ b. unless (first-of ((6, not b) ∷ [])) (desk-of s) (Answer.done, numbered (desk-of s) (a .next) (unloosed t (Alloc.loose a)))) h
+      ap (λ b. unless (first-of ((Because.NotLoose, not b) ∷ [])) (desk-of s) (Answer.done, numbered (desk-of s) (a .next) (unloosed t (Alloc.loose a)))) h
       ∙ ap (after-release s) (sym (released-none a t h))
 
   release-means : step u (desk-of s) (Call.release t) ≡ after-release s (Alloc.dropped-of true t (s .fdt .tois))

@@ -1,4 +1,6 @@
 -- Publish under the sender: every listed object is marked, waiting or in hand, and the FDT is queued; its refusals.
+use Rattle.sizes.specs.declared.refusal.Refusal.{Refusal}
+use Rattle.sizes.specs.declared.refusal.Refusal.the-variants as Because
 use mathlib.Core.Path.{_≡_, refl, sym, _∙_, ap}
 use mathlib.Core.Bool.{true, false, _||_}
 use mathlib.Core.Option.{none, some}
@@ -94,19 +96,19 @@ announced-stays f a e = record {
 
 -- why it is refused
 pub refusal-view : (u : Setup) (s : Sender) → Valid s → Agrees u s → (c : Part) → Def.publish-refusal u (desk-of s .fdt) c ≡ first-of
-    ((4, bad-blocks (s .fdt .settings .sizes) (c .size))
-    ∷ (5, bad-fdt-of (s .fdt .settings .«fdt_store») c (s .fdt .announcer) || eqb (c .size) 0)
-    ∷ (7, leb waiting-fdts (s .fdt .announcer .waiting))
+    ((Because.Sizes, bad-blocks (s .fdt .settings .sizes) (c .size))
+    ∷ (Because.Part, bad-fdt-of (s .fdt .settings .«fdt_store») c (s .fdt .announcer) || eqb (c .size) 0)
+    ∷ (Because.Full, leb waiting-fdts (s .fdt .announcer .waiting))
     ∷ [])
 unfolding Def.publish-refusal desk-of
 refusal-view u s v g c = λ i. first-of
-    ((4, bad-blocks (g .sizes i) (c .size))
-    ∷ (5, sym (bad-said c u (s .fdt .settings .«fdt_store») (s .fdt .announcer) (g .fdt-store)) i || eqb (c .size) 0)
-    ∷ (7, leb waiting-fdts (waiting-length (s .fdt .announcer) (v .holds .valid .fdts) i))
+    ((Because.Sizes, bad-blocks (g .sizes i) (c .size))
+    ∷ (Because.Part, sym (bad-said c u (s .fdt .settings .«fdt_store») (s .fdt .announcer) (g .fdt-store)) i || eqb (c .size) 0)
+    ∷ (Because.Full, leb waiting-fdts (waiting-length (s .fdt .announcer) (v .holds .valid .fdts) i))
     ∷ [])
 
 module _ (s : Sender) (now : ℕ) (c : Part) (v : Valid s) where
-  publish-refused : (n : ℕ) → ((u : Setup) → Agrees u s → Def.publish-refusal u (desk-of s .fdt) c ≡ some n) → Kept s (Def.Call.publish now c) (Def.Answer.refused n) s
+  publish-refused : (n : Refusal) → ((u : Setup) → Agrees u s → Def.publish-refusal u (desk-of s .fdt) c ≡ some n) → Kept s (Def.Call.publish now c) (Def.Answer.refused n) s
   unfolding Def.step
   publish-refused n h = record {
     means = λ u g. ap (λ o. Def.unless o (desk-of s) (Def.Answer.done, Def.all-published (Def.with-fdt (desk-of s) (fdt-published now c (desk-of s .fdt))))) (h u g);
@@ -140,10 +142,10 @@ module _ (s : Sender) (now : ℕ) (c : Part) (v : Valid s) where
       let bad = bad-blocks (f .settings .sizes) (c .size) in
       let part = bad-fdt-of (f .settings .«fdt_store») c (f .announcer) || eqb (c .size) 0 in
       let full = leb waiting-fdts (f .announcer .waiting) in
-      if-on Goes bad (λ p a b. publish-refused 4 (λ u g. refusal-view u s v g c ∙ (λ i. first-of ((4, p i) ∷ (5, part) ∷ (7, full) ∷ []))))
-      (λ p. if-on Goes part (λ q a b. publish-refused 5 (λ u g. refusal-view u s v g c ∙ (λ i. first-of ((4, p i) ∷ (5, q i) ∷ (7, full) ∷ []))))
-      (λ q. if-on Goes full (λ r a b. publish-refused 7 (λ u g. refusal-view u s v g c ∙ (λ i. first-of ((4, p i) ∷ (5, q i) ∷ (7, r i) ∷ []))))
-      (λ r. publish-done (λ u g. refusal-view u s v g c ∙ (λ i. first-of ((4, p i) ∷ (5, q i) ∷ (7, r i) ∷ []))) (leb-false waiting-fdts (f .announcer .waiting) r))))
+      if-on Goes bad (λ p a b. publish-refused Because.Sizes (λ u g. refusal-view u s v g c ∙ (λ i. first-of ((Because.Sizes, p i) ∷ (Because.Part, part) ∷ (Because.Full, full) ∷ []))))
+      (λ p. if-on Goes part (λ q a b. publish-refused Because.Part (λ u g. refusal-view u s v g c ∙ (λ i. first-of ((Because.Sizes, p i) ∷ (Because.Part, q i) ∷ (Because.Full, full) ∷ []))))
+      (λ q. if-on Goes full (λ r a b. publish-refused Because.Full (λ u g. refusal-view u s v g c ∙ (λ i. first-of ((Because.Sizes, p i) ∷ (Because.Part, q i) ∷ (Because.Full, r i) ∷ []))))
+      (λ r. publish-done (λ u g. refusal-view u s v g c ∙ (λ i. first-of ((Because.Sizes, p i) ∷ (Because.Part, q i) ∷ (Because.Full, r i) ∷ []))) (leb-false waiting-fdts (f .announcer .waiting) r))))
     where
       Goes : Published → Type 0
       Goes r = Holds (r .fdt) → FdtHolds (r .fdt) → Kept s (Def.Call.publish now c) (alloc-answer (publication-said (r .answer))) (with-list s (r .fdt))

@@ -1,4 +1,5 @@
 -- Why an add is refused: the desk's table is the list's, read off the records.
+use Rattle.sizes.specs.declared.refusal.Refusal.the-variants as Because
 use mathlib.Core.Path.{_≡_, refl, sym, _∙_, ap}
 use mathlib.Core.Bool.{Bool, true, false, not, _||_}
 use mathlib.Core.Option.{some}
@@ -80,11 +81,11 @@ pub add-refusal-view : (u : Setup) (s : Sender) → Agrees u s → Valid s → (
 unfolding Def.add-refusal desk-of request-of
 add-refusal-view u s a v o named =
     (λ i. first-of
-    ((2, no-session-view s (o .priority) i)
+    ((Because.NoPriority, no-session-view s (o .priority) i)
     ∷ (3, s .fdt .complete)
-    ∷ (4, bad-blocks (own-view u (s .fdt .settings .sizes) (a .sizes) o i) (o .part .size))
+    ∷ (Because.Sizes, bad-blocks (own-view u (s .fdt .settings .sizes) (a .sizes) o i) (o .part .size))
     ∷ (5, part-view u s a v (o .part) i)
-    ∷ (6, not-loose-view s named i)
-    ∷ (7, no-room-view s v named i)
+    ∷ (Because.NotLoose, not-loose-view s named i)
+    ∷ (Because.Full, no-room-view s v named i)
     ∷ []))
     ∙ ap (λ r. if not (any (has-priority (o .priority)) (working s)) then some 2 else r) (sym (refusal-view (s .fdt) (request-of o) named))

@@ -1,4 +1,5 @@
 -- A run of a file session under the sender: the answer and the desk are the definition's, and Valid is kept.
+use Rattle.sizes.specs.declared.refusal.Refusal.the-variants as Because
 use mathlib.Core.Path.{_≡_, refl, sym, _∙_, ap, subst}
 use mathlib.Core.Bool.{Bool, true, false, _&&_}
 use mathlib.Core.Option.{none, some}
@@ -279,30 +280,30 @@ module _ (s : Sender) (v : Valid s) (i now : ℕ) (h : i < s .count) where
       validity = rw (same .settings) (a .validity);
     }
 
-  step-run : (u : Setup) → Agrees u s → Def.step u (desk-of s) (Def.Call.run-file now i) ≡ (file-answer (answer-of false (slot-at (r .fdt .slots) (r .session .slot) .file .toi) 0 (r .answer)), desk-of s′)
+  step-run : (u : Setup) → Agrees u s → Def.step u (desk-of s) (Def.Call.run-file i now) ≡ (file-answer (answer-of false (slot-at (r .fdt .slots) (r .session .slot) .file .toi) 0 (r .answer)), desk-of s′)
   unfolding Def.step desk-of
   step-run u a =
-      ap (maybe (Def.Answer.refused 8, desk-of s) (Def.ran u now i (desk-of s))) (at-map (session-of (s .fdt .slots)) (working s) i ∙ ap (over (session-of (s .fdt .slots))) at-i)
+      ap (maybe (Def.Answer.refused Because.NoSession, desk-of s) (Def.ran u now i (desk-of s))) (at-map (session-of (s .fdt .slots)) (working s) i ∙ ap (over (session-of (s .fdt .slots))) at-i)
       ∙ run-said u (a .window)
       ∙ (λ k. (answer-said (slot-at (r .fdt .slots) (r .session .slot) .file .toi) (r .answer) k, desk-of s′))
 
-  kept-run : Kept s (Def.Call.run-file now i) (file-answer (answer-of false (slot-at (r .fdt .slots) (r .session .slot) .file .toi) 0 (r .answer))) s′
+  kept-run : Kept s (Def.Call.run-file i now) (file-answer (answer-of false (slot-at (r .fdt .slots) (r .session .slot) .file .toi) 0 (r .answer))) s′
   kept-run = record { means = step-run; agrees = λ u a. agrees-run u (a .window) a; valid = valid-run (windowed (s .window)) refl }
 
 -- refusal 8: there is no such session
-kept-refused : (s : Sender) → Valid s → (i now : ℕ) → s .count ≤ i → Kept s (Def.Call.run-file now i) (Def.Answer.refused 8) s
+kept-refused : (s : Sender) → Valid s → (i now : ℕ) → s .count ≤ i → Kept s (Def.Call.run-file i now) (Def.Answer.refused Because.NoSession) s
 unfolding Def.step desk-of
 kept-refused s v i now h = record {
-  means = λ u a. ap (maybe (Def.Answer.refused 8, desk-of s) (Def.ran u now i (desk-of s))) (at-map (session-of (s .fdt .slots)) (working s) i ∙ ap (over (session-of (s .fdt .slots))) (at-past (s .sessions) (s .count) i h));
+  means = λ u a. ap (maybe (Def.Answer.refused Because.NoSession, desk-of s) (Def.ran u now i (desk-of s))) (at-map (session-of (s .fdt .slots)) (working s) i ∙ ap (over (session-of (s .fdt .slots))) (at-past (s .sessions) (s .count) i h));
   agrees = λ u a. a;
   valid = v;
 }
 
 -- ---- the call
 
-pub run-kept : (s : Sender) (i now : ℕ) → Valid s → Kept s (Def.Call.run-file now i) (file-answer (running-of i now s .answer)) (running-of i now s .sender)
+pub run-kept : (s : Sender) (i now : ℕ) → Valid s → Kept s (Def.Call.run-file i now) (file-answer (running-of i now s .answer)) (running-of i now s .sender)
 unfolding running-of
-run-kept s i now v = if-on (λ (a : Running). Kept s (Def.Call.run-file now i) (file-answer (a .answer)) (a .sender)) (ltb i (s .count))
+run-kept s i now v = if-on (λ (a : Running). Kept s (Def.Call.run-file i now) (file-answer (a .answer)) (a .sender)) (ltb i (s .count))
     (λ e. kept-run s v i now (ltb-true i (s .count) e)) (λ e. kept-refused s v i now (ltb-false i (s .count) e))
 
 -- what the code's run requires

@@ -1,4 +1,5 @@
 -- Laws of the FDT session: every call keeps FdtHolds, and what a round of the session comes to in each of its cases.
+use Rattle.sizes.specs.declared.refusal.Refusal.the-variants as Because
 use mathlib.Core.Path.{_≡_, refl, sym, _∙_, ap, subst}
 use mathlib.Core.Option.{none}
 use mathlib.Core.List.{[], _∷_}
@@ -188,7 +189,7 @@ unfolding draft-test-of
 draft-looked Missing f n e = tt
 draft-looked (Given c) f n e = passed (bad-blocks (f .settings .sizes) (c .size)) (bad-fdt-of (f .settings .«fdt_store») c (f .announcer)) refl refl e
   where
-    passed : (a b : Bool) → bad-blocks (f .settings .sizes) (c .size) ≡ a → bad-fdt-of (f .settings .«fdt_store») c (f .announcer) ≡ b → first-of ((4, a) ∷ (5, b) ∷ []) ≡ none → GoodPart (f .settings .sizes) c
+    passed : (a b : Bool) → bad-blocks (f .settings .sizes) (c .size) ≡ a → bad-fdt-of (f .settings .«fdt_store») c (f .announcer) ≡ b → first-of ((Because.Sizes, a) ∷ (Because.Part, b) ∷ []) ≡ none → GoodPart (f .settings .sizes) c
     passed true b p q e = absurd (none≢some (sym e))
     passed false true p q e = absurd (none≢some (sym e))
     passed false false p q e = record { sizes = p; fits = stored (f .settings .«fdt_store») c (f .announcer) n q }

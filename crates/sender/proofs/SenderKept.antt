@@ -75,7 +75,7 @@ module _ (s : Sender) (v : Valid s) where
   lists t = record { exact = refl; kept = listed-kept s v t }
 
   pub totals : (t : ℕ) (r : Transfers) → transfers-said r ≡ transfers-of t (s .fdt) → Totals t s r
-  totals t r e = record { exact = e; kept = subst (λ n. Kept s (Def.Call.transfers t) (Def.Answer.transferred n) s) (sym e) (transfers-kept s v t) }
+  totals t r e = record { exact = e; kept = subst (λ n. Kept s (Def.Call.ask (Def.Question.transfers t)) (Def.Answer.transferred n) s) (sym e) (transfers-kept s v t) }
 
   pub completes : Completes s (completing-of s)
   completes =

@@ -1,4 +1,5 @@
 -- Runs of the code are the definition's, call by call, and so keep its promises; a refused call leaves the sender as it was.
+use Rattle.sizes.specs.declared.refusal.Refusal.{Refusal}
 use Rattle.sender.proofs.SetupCallsLaws.{OpeningKept, opening-kept}
 use mathlib.Core.Path.{_≡_, refl, sym, _∙_, ap, subst}
 use mathlib.Core.Bool.{Bool, true, false, not, _&&_, _||_, false≢true}
@@ -164,7 +165,7 @@ module _ (s : Sender) where
       if-on P (bad-fdt-of (s .fdt .settings .«fdt_store») c (s .fdt .announcer) || eqb (c .size) 0) (λ h e. refl) (λ h.
       if-on P (leb waiting-fdts (s .fdt .announcer .waiting)) (λ h e. refl) (λ h e. absurd (false≢true e))))
 
-  refused-fdt-run : (now : ℕ) (draft : Draft) (x : Option ℕ) → refuses (fdt-answer (fdt-running-by now draft s x .taken) (fdt-running-by now draft s x .answer)) → fdt-running-by now draft s x .sender ≡ s
+  refused-fdt-run : (now : ℕ) (draft : Draft) (x : Option Refusal) → refuses (fdt-answer (fdt-running-by now draft s x .taken) (fdt-running-by now draft s x .answer)) → fdt-running-by now draft s x .sender ≡ s
   refused-fdt-run now draft none e = let r = fdt-ran-of (s .window) now draft (s .fdt) (s .«fdt_session») in absurd (false≢true (sym (served-fdt (r .taken) (r .session .id) (r .answer)) ∙ e))
   refused-fdt-run now draft (some n) e = refl
 

@@ -1,4 +1,5 @@
 -- Laws of the file sessions: every call of the list keeps its objects good, an object that is taken in hand is ready, and after a run the session may be run again.
+use Rattle.sizes.specs.declared.refusal.Refusal.the-variants as Because
 use mathlib.Core.Path.{_≡_, refl, sym, _∙_, ap, subst}
 use mathlib.Core.Bool.{Bool, true, false, _||_, false≢true}
 use mathlib.Core.Logic.{_⊎_, inl, inr}
@@ -189,7 +190,7 @@ module _ (f : Fdt) (h : Holds f) where
       first-none n false e = (refl, e)
 
       go : (r : Added) → ListValid (r .fdt)
-          → refusal (r .answer) ≡ first-of ((3, f .complete) ∷ (4, bad-blocks z (q .part .size)) ∷ (5, bad-part-of f (q .part)) ∷ (6, unknown named f) ∷ (7, full named f) ∷ [])
+          → refusal (r .answer) ≡ first-of ((Because.Complete, f .complete) ∷ (Because.Sizes, bad-blocks z (q .part .size)) ∷ (Because.Part, bad-part-of f (q .part)) ∷ (Because.NotLoose, unknown named f) ∷ (Because.Full, full named f) ∷ [])
           → ListAdds f q z named r → Holds (r .fdt)
       go r v a (refused b n e) = subst (λ (x : Added). Holds (x .fdt)) (sym e) h
       go r v a (admits k t w) =

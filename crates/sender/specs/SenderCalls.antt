@@ -7,6 +7,8 @@ use Prim.Native.Nat.{ℕ, _<_, _≤_}
 use lib.Dec.{eqb, ltb}
 use lib.ListN.{length, getD, take, set}
 use Rattle.sizes.specs.Words.{if_then_else_, any, collect, Counts}
+use Rattle.sizes.specs.declared.refusal.Refusal.{Refusal}
+use Rattle.sizes.specs.declared.refusal.Refusal.the-variants as Because
 use Rattle.sizes.specs.Limits.{most-sessions, largest-window, longest-store}
 use Rattle.sizes.specs.Allocator as Alloc
 use Rattle.sizes.specs.declared.partition.Sizes.{Sizes}
@@ -118,12 +120,7 @@ alloc-answer (Alloc.Said.refused n) = Def.Answer.refused n
 
 abbrev pub add-answer : AddAnswer → Def.Answer
 add-answer (AddV.Toi t) = Def.Answer.number t
-add-answer AddV.NoSession = Def.Answer.refused 2
-add-answer AddV.Complete = Def.Answer.refused 3
-add-answer AddV.Sizes = Def.Answer.refused 4
-add-answer AddV.Part = Def.Answer.refused 5
-add-answer AddV.Unknown = Def.Answer.refused 6
-add-answer AddV.Full = Def.Answer.refused 7
+add-answer (AddV.Refused why) = Def.Answer.refused why
 
 abbrev pub packet-said : Packet → DefPacket
 packet-said p = record { id = if p .«is_fdt» then some (p .«fdt_id») else none; toi = p .toi; symbol = symbol-said (p .symbol) }
@@ -132,25 +129,19 @@ packet-said p = record { id = if p .«is_fdt» then some (p .«fdt_id») else no
 abbrev pub packet-in : RunAnswer → Option DefPacket
 packet-in (RunV.Packet p) = some (packet-said p)
 packet-in RunV.Nothing = none
-packet-in RunV.Sizes = none
-packet-in RunV.Part = none
-packet-in RunV.NoSession = none
+packet-in (RunV.Refused why) = none
 
 -- of a file session
 abbrev pub file-answer : RunAnswer → Def.Answer
 file-answer (RunV.Packet p) = Def.Answer.output (some (packet-said p))
 file-answer RunV.Nothing = Def.Answer.output none
-file-answer RunV.Sizes = Def.Answer.refused 4
-file-answer RunV.Part = Def.Answer.refused 5
-file-answer RunV.NoSession = Def.Answer.refused 8
+file-answer (RunV.Refused why) = Def.Answer.refused why
 
 -- of the FDT session, with whether the draft was taken
 abbrev pub fdt-answer : Bool → RunAnswer → Def.Answer
 fdt-answer taken (RunV.Packet p) = Def.Answer.fdt-output taken (some (packet-said p))
 fdt-answer taken RunV.Nothing = Def.Answer.fdt-output taken none
-fdt-answer taken RunV.Sizes = Def.Answer.refused 4
-fdt-answer taken RunV.Part = Def.Answer.refused 5
-fdt-answer taken RunV.NoSession = Def.Answer.refused 8
+fdt-answer taken (RunV.Refused why) = Def.Answer.refused why
 
 -- ---- what each call is on the definition's side
 
@@ -205,17 +196,17 @@ request-of o = record { priority = o .priority; part = o .part; own = o .own; ru
 
 abbrev pub admission-said : Admission → AddAnswer
 admission-said (AdmissionV.Toi t) = AddV.Toi t
-admission-said AdmissionV.Complete = AddV.Complete
-admission-said AdmissionV.Sizes = AddV.Sizes
-admission-said AdmissionV.Part = AddV.Part
-admission-said AdmissionV.Unknown = AddV.Unknown
-admission-said AdmissionV.Full = AddV.Full
+admission-said AdmissionV.Complete = AddV.Refused Because.Complete
+admission-said AdmissionV.Sizes = AddV.Refused Because.Sizes
+admission-said AdmissionV.Part = AddV.Refused Because.Part
+admission-said AdmissionV.Unknown = AddV.Refused Because.NotLoose
+admission-said AdmissionV.Full = AddV.Refused Because.Full
 
 unfoldable pub adding-of : Object → Named → Sender → Adding
 adding-of o named s =
     if any (has-priority (o .priority)) (working s)
     then (let r = added-of (s .fdt) (request-of o) named in record { answer = admission-said (r .answer); sender = with-list s (r .fdt) })
-    else record { answer = AddV.NoSession; sender = s }
+    else record { answer = AddV.Refused Because.NoPriority; sender = s }
 
 -- the answer of a session's run
 abbrev pub answer-of : Bool → ℕ → ℕ → Served → RunAnswer
@@ -240,22 +231,22 @@ running-of i now s =
       answer = answer-of false (slot-at (r .fdt .slots) (r .session .slot) .file .toi) 0 (r .answer);
       sender = record { fdt = r .fdt; window = s .window; count = s .count; sessions = set (s .sessions) i (r .session); «fdt_session» = s .«fdt_session» };
     })
-    else record { taken = false; answer = RunV.NoSession; sender = s }
+    else record { taken = false; answer = RunV.Refused Because.NoSession; sender = s }
 
 -- why a draft is refused
 abbrev pub draft-answer : DraftTest → RunAnswer
 draft-answer DraftTestV.Good = RunV.Nothing
-draft-answer DraftTestV.Sizes = RunV.Sizes
-draft-answer DraftTestV.Part = RunV.Part
+draft-answer DraftTestV.Sizes = RunV.Refused Because.Sizes
+draft-answer DraftTestV.Part = RunV.Refused Because.Part
 
 -- a run of the FDT session with a draft that was looked at
-abbrev pub fdt-running-by : ℕ → Draft → Sender → Option ℕ → Running
+abbrev pub fdt-running-by : ℕ → Draft → Sender → Option Refusal → Running
 fdt-running-by now draft s none = let r = fdt-ran-of (s .window) now draft (s .fdt) (s .«fdt_session») in record {
   taken = r .taken;
   answer = answer-of true 0 (r .session .id) (r .answer);
   sender = record { fdt = r .fdt; window = s .window; count = s .count; sessions = s .sessions; «fdt_session» = r .session };
 }
-fdt-running-by now draft s (some n) = record { taken = false; answer = if eqb n 4 then RunV.Sizes else RunV.Part; sender = s }
+fdt-running-by now draft s (some why) = record { taken = false; answer = RunV.Refused why; sender = s }
 
 unfoldable pub fdt-running-of : ℕ → Draft → Sender → Running
 fdt-running-of now draft s = fdt-running-by now (real-draft draft) s (draft-test-of (real-draft draft) (s .fdt))
@@ -276,19 +267,19 @@ pub record Adds (o : Object) (named : Named) (s : Sender) (r : Adding) : Type 0 
 
 pub record Removes (t : ℕ) (s : Sender) (r : Telling) : Type 0 where
   pub exact : r ≡ removing-of t s
-  pub kept : Kept s (Def.Call.remove t) (Def.Answer.truth (r .yes)) (r .sender)
+  pub kept : Kept s (Def.Call.touch t Def.Touch.remove) (Def.Answer.truth (r .yes)) (r .sender)
 
 pub record Prompts (t : ℕ) (start : Time) (s : Sender) (r : Telling) : Type 0 where
   pub exact : r ≡ prompting-of t start s
-  pub kept : Kept s (Def.Call.trigger t (time-of start)) (Def.Answer.truth (r .yes)) (r .sender)
+  pub kept : Kept s (Def.Call.touch t (Def.Touch.trigger (time-of start))) (Def.Answer.truth (r .yes)) (r .sender)
 
 pub record Lists (t : ℕ) (s : Sender) (r : Bool) : Type 0 where
   pub exact : r ≡ is-added-of t (s .fdt)
-  pub kept : Kept s (Def.Call.listed t) (Def.Answer.truth r) s
+  pub kept : Kept s (Def.Call.ask (Def.Question.listed t)) (Def.Answer.truth r) s
 
 pub record Totals (t : ℕ) (s : Sender) (r : Transfers) : Type 0 where
   pub exact : transfers-said r ≡ transfers-of t (s .fdt)
-  pub kept : Kept s (Def.Call.transfers t) (Def.Answer.transferred (transfers-said r)) s
+  pub kept : Kept s (Def.Call.ask (Def.Question.transfers t)) (Def.Answer.transferred (transfers-said r)) s
 
 pub record Completes (s r : Sender) : Type 0 where
   pub exact : r ≡ completing-of s
@@ -304,4 +295,4 @@ pub record RunsFdt (now : ℕ) (draft : Draft) (s : Sender) (r : Running) : Type
 
 pub record RunsFile (i now : ℕ) (s : Sender) (r : Running) : Type 0 where
   pub exact : r ≡ running-of i now s
-  pub kept : Kept s (Def.Call.run-file now i) (file-answer (r .answer)) (r .sender)
+  pub kept : Kept s (Def.Call.run-file i now) (file-answer (r .answer)) (r .sender)

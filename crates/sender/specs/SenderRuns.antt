@@ -41,14 +41,14 @@ abbrev pub call-said : Call → Def.Call
 call-said reserve = Def.Call.reserve
 call-said (release t) = Def.Call.release t
 call-said (add o named) = Def.Call.add (named-said named) (object-said o)
-call-said (remove t) = Def.Call.remove t
-call-said (trigger t start) = Def.Call.trigger t (time-of start)
-call-said (listed t) = Def.Call.listed t
-call-said (transfers t) = Def.Call.transfers t
+call-said (remove t) = Def.Call.touch t Def.Touch.remove
+call-said (trigger t start) = Def.Call.touch t (Def.Touch.trigger (time-of start))
+call-said (listed t) = Def.Call.ask (Def.Question.listed t)
+call-said (transfers t) = Def.Call.ask (Def.Question.transfers t)
 call-said complete = Def.Call.complete
 call-said (publish now c) = Def.Call.publish now c
 call-said (run-fdt now draft) = Def.Call.run-fdt now (draft-given draft)
-call-said (run-file i now) = Def.Call.run-file now i
+call-said (run-file i now) = Def.Call.run-file i now
 
 -- what the code answers, by the table's numbers, and the sender that it leaves: the functions that its contracts are exact by
 abbrev pub answered : Sender → Call → Def.Answer × Sender

@@ -1,4 +1,5 @@
 -- Set-up as the code has it: what it says, the sender that it opens, and what is promised of it.
+use Rattle.sizes.specs.declared.refusal.Refusal.the-variants as Because
 use mathlib.Core.Path.{_≡_}
 use mathlib.Core.Bool.{Bool, true, false}
 use mathlib.Core.Option.{none, some}
@@ -120,6 +121,6 @@ opened-of z = if sound (setup-said z) then record { ok = true; sender = opening-
 
 pub record Opens (z : Setup) (r : Opened) : Type 0 where
   pub exact : r ≡ opened-of z
-  pub means : Def.set-up (setup-said z) ≡ (if r .ok then (Def.Answer.done, some (desk-of (r .sender))) else (Def.Answer.refused 1, none))
+  pub means : Def.set-up (setup-said z) ≡ (if r .ok then (Def.Answer.done, some (desk-of (r .sender))) else (Def.Answer.refused Because.SetUp, none))
   pub agrees : r .ok ≡ true → Agrees (setup-said z) (r .sender)
   pub valid : Valid (r .sender)

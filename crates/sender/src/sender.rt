@@ -15,6 +15,7 @@ use crate::sendersession::Served;
 use lifecycle::announce::Draft;
 use lifecycle::fdt::Admission;
 use lifecycle::fdt::DraftTest;
+use sizes::refusal::Refusal;
 use lifecycle::fdt::Fdt;
 use lifecycle::fdt::Named;
 use lifecycle::fdt::Own;
@@ -64,21 +65,14 @@ pub struct Packet {
 // The number of an admitted object, or why it is refused.
 pub enum AddAnswer {
     Toi(u64),
-    NoSession,
-    Complete,
-    Sizes,
-    Part,
-    Unknown,
-    Full,
+    Refused(Refusal),
 }
 
 // What a run gives, or why it is refused.
 pub enum RunAnswer {
     Packet(Packet),
     Nothing,
-    Sizes,
-    Part,
-    NoSession,
+    Refused(Refusal),
 }
 
 pub struct Reserving {
@@ -154,11 +148,11 @@ fn add_answer(a: Admission) -> AddAnswer
 {
     match a {
         Admission::Toi(t) => AddAnswer::Toi(t),
-        Admission::Complete => AddAnswer::Complete,
-        Admission::Sizes => AddAnswer::Sizes,
-        Admission::Part => AddAnswer::Part,
-        Admission::Unknown => AddAnswer::Unknown,
-        Admission::Full => AddAnswer::Full,
+        Admission::Complete => AddAnswer::Refused(Refusal::Complete),
+        Admission::Sizes => AddAnswer::Refused(Refusal::Sizes),
+        Admission::Part => AddAnswer::Refused(Refusal::Part),
+        Admission::Unknown => AddAnswer::Refused(Refusal::NotLoose),
+        Admission::Full => AddAnswer::Refused(Refusal::Full),
     }
 }
 
@@ -179,8 +173,8 @@ fn draft_answer(t: DraftTest) -> RunAnswer
 {
     match t {
         DraftTest::Good => RunAnswer::Nothing,
-        DraftTest::Sizes => RunAnswer::Sizes,
-        DraftTest::Part => RunAnswer::Part,
+        DraftTest::Sizes => RunAnswer::Refused(Refusal::Sizes),
+        DraftTest::Part => RunAnswer::Refused(Refusal::Part),
     }
 }
 
@@ -348,7 +342,7 @@ impl Sender {
     {
         if !self.has_priority(o.priority) {
             return Adding {
-                answer: AddAnswer::NoSession,
+                answer: AddAnswer::Refused(Refusal::NoPriority),
                 sender: self,
             };
         }
@@ -394,7 +388,7 @@ impl Sender {
         if self.count as u64 <= i {
             return Running {
                 taken: false,
-                answer: RunAnswer::NoSession,
+                answer: RunAnswer::Refused(Refusal::NoSession),
                 sender: self,
             };
         }
