@@ -1,4 +1,6 @@
 -- Add on the desk: refused as the definition says, or the object stands last in the queue with its number; and the sender stays valid.
+use Rattle.sizes.specs.declared.refusal.Refusal.the-variants as Because
+use Rattle.sizes.specs.declared.refusal.Refusal.{Refusal}
 use mathlib.Core.Path.{_≡_, refl, sym, _∙_, ap, subst}
 use mathlib.Core.Bool.{Bool, true, false, not, true≢false}
 use mathlib.Core.Option.{Option, some}
@@ -183,14 +185,14 @@ module _ (o : Object) (named : Named) (s : Sender) (v : Valid s) where
   call = Def.Call.add (named-said named) (object-said o)
 
   -- the refusal, or what an admitted add makes of the desk
-  abbrev comes : Setup → Option ℕ → Def.Result
+  abbrev comes : Setup → Option Refusal → Def.Result
   comes u x = Def.unless x (desk-of s)
       (Def.Answer.number (Def.toi-for (desk-of s) (named-said named)), Def.admitted u (Def.toi-for (desk-of s) (named-said named)) (object-said o) (if given (named-said named) then desk-of s else Def.reserved u (desk-of s)))
 
   step-is : (u : Setup) → Agrees u s → {b : Bool} → any (has-priority (o .priority)) (working s) ≡ b
-      → Def.step u (desk-of s) call ≡ comes u (if not b then some 2 else refusal (added-of (s .fdt) (request-of o) named .answer))
+      → Def.step u (desk-of s) call ≡ comes u (if not b then some Because.NoPriority else refusal (added-of (s .fdt) (request-of o) named .answer))
   unfolding Def.step
-  step-is u a e = ap (comes u) (add-refusal-view u s a v o named ∙ ap (λ b. if not b then some 2 else refusal (added-of (s .fdt) (request-of o) named .answer)) e)
+  step-is u a e = ap (comes u) (add-refusal-view u s a v o named ∙ ap (λ b. if not b then some Because.NoPriority else refusal (added-of (s .fdt) (request-of o) named .answer)) e)
 
   -- what the list makes of it is what the definition says
   list-means : (u : Setup) → Agrees u s → (r : Added) → ListAdds (s .fdt) (request-of o) (own-of (o .own) (s .fdt .settings .sizes)) named r → Beside (s .fdt) (r .fdt)

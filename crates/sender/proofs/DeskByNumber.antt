@@ -25,6 +25,7 @@ use Rattle.lifecycle.proofs.FdtFacts.{maybe-on, if-on}
 use Rattle.lifecycle.proofs.FdtByNumber.{removed-cases, removed-answer, removed-view, triggered-view, triggered-answer}
 use Rattle.definition.specs.Session.{Object, Hand, living}
 use Rattle.definition.specs.Desk as Def
+use Rattle.definition.proofs.Touches.{removed-waiting, prompted, prompted-waiting, prompted-hands}
 use Rattle.sender.specs.EncoderCalls.{encoder-of}
 use Rattle.sender.specs.SessionCalls.{object-of, hand-of, Holds}
 use Rattle.sender.specs.FdtSessionCalls.{FdtHolds}
@@ -83,20 +84,20 @@ abbrev flagged : Slot → SenderSession → Bool → Hand
 flagged y x b = record { object = object-of (y .file); listed = b; encoder = encoder-of (x .encoder); pace = pace-said (x .pace) }
 
 -- off the list if it has the number
-unlisted-hand : (t : ℕ) (y : Slot) (x : SenderSession) → flagged y x (listed-but t y) ≡ Def.unlisted t (hand-of y x)
-unfolding Def.unlisted Def.is
+unlisted-hand : (t : ℕ) (y : Slot) (x : SenderSession) → flagged y x (listed-but t y) ≡ Def.touched-hand t Def.Touch.remove (hand-of y x)
+unfolding Def.touched-hand Def.is
 unlisted-hand t y x = elim (eqb (y .file .toi) t) as (λ b. flagged y x (y .listed && not b) ≡ (if b then flagged y x false else hand-of y x))
     [ true ↦ ap (flagged y x) (and-false (y .listed)) | false ↦ ap (flagged y x) (and-true (y .listed)) ]
 
-pub removed-desk : (s : Sender) → Valid s → (t : ℕ) → desk-of (with-list s (removed-of t (s .fdt) .fdt)) ≡ Def.removed t (desk-of s)
-unfolding Def.removed Def.is desk-of
+pub removed-desk : (s : Sender) → Valid s → (t : ℕ) → desk-of (with-list s (removed-of t (s .fdt) .fdt)) ≡ Def.touched t Def.Touch.remove (desk-of s)
+unfolding Def.touched Def.is desk-of
 removed-desk s v t =
     let f = s .fdt in
     let r = removed-of t f .fdt in
     let w = removed-view t f (v .holds .valid) in
     desk-moved s r _ _ (removed-side t f (v .holds .valid))
-    (ap (map object-of) (w .queue) ∙ sym (keep-map (λ (o : Object). not (Def.is t o)) object-of (files f)))
-    (sessions-moved s v (r .slots) (Def.unlisted t) (λ j x e. (λ i. record {
+    (ap (map object-of) (w .queue) ∙ sym (keep-map (λ (o : Object). not (Def.is t o)) object-of (files f)) ∙ sym (removed-waiting t (map object-of (files f))))
+    (sessions-moved s v (r .slots) (Def.touched-hand t Def.Touch.remove) (λ j x e. (λ i. record {
       object = object-of (w .file-same j e i);
       listed = w .unlists j e i;
       encoder = encoder-of (x .encoder);
@@ -146,23 +147,23 @@ module _ (t : ℕ) (start : Time) (f : Fdt) where
       whole = record { settings = refl; complete = refl; announcer = refl; next = refl; loose = refl }
 
 -- the object that was reset
-prompted-object : (t : ℕ) (start : Time) (o : FileDesc) → object-of (reset-file t start o) ≡ Def.prompted t (time-of start) (object-of o)
-unfolding Def.prompted Def.is
+prompted-object : (t : ℕ) (start : Time) (o : FileDesc) → object-of (reset-file t start o) ≡ prompted t (time-of start) (object-of o)
+unfolding prompted Def.is
 prompted-object t start o = elim (eqb (o .toi) t) as (λ b. object-of (if b then with-life o (reset-life start (o .life)) else o) ≡ (if b then living (triggered (time-of start) (life-of (o .life))) (object-of o) else object-of o))
     [ true ↦ ap (λ x. living x (object-of o)) (life-reset start (o .life)) | false ↦ refl ]
 
 pub prompted-desk : (s : Sender) → Valid s → (t : ℕ) (start : Time)
-    → desk-of (with-list s (triggered-of t start (s .fdt) .fdt)) ≡ Def.moved (desk-of s) (map (Def.prompted t (time-of start)) (desk-of s .queue)) (desk-of s .sessions)
-unfolding desk-of
+    → desk-of (with-list s (triggered-of t start (s .fdt) .fdt)) ≡ Def.touched t (Def.Touch.trigger (time-of start)) (desk-of s)
+unfolding Def.touched desk-of
 prompted-desk s v t start =
     let f = s .fdt in
     let r = triggered-of t start f .fdt in
     let w = triggered-view t start f (v .holds .valid) in
     desk-moved s r _ _ (triggered-side t start f)
     (ap (map object-of) (w .queue)
-    ∙ map-comm object-of (reset-file t start) (Def.prompted t (time-of start)) (files f)
-    (each-all (λ o. object-of (reset-file t start o) ≡ Def.prompted t (time-of start) (object-of o)) (prompted-object t start) (files f)))
-    (sessions-same s v (r .slots) (w .same))
+    ∙ map-comm object-of (reset-file t start) (prompted t (time-of start)) (files f)
+    (each-all (λ o. object-of (reset-file t start o) ≡ prompted t (time-of start) (object-of o)) (prompted-object t start) (files f)) ∙ sym (prompted-waiting t (time-of start) (map object-of (files f))))
+    (sessions-same s v (r .slots) (w .same) ∙ sym (prompted-hands t (time-of start) (desk-of s .sessions)))
 
 pub triggered-stays : (s : Sender) → Valid s → (t : ℕ) (start : Time) → Stays (s .fdt) (triggered-of t start (s .fdt) .fdt)
 triggered-stays s v t start =

@@ -249,27 +249,12 @@ refusal-view : (u : Setup) (s : Sender) → Agrees u s → (draft : Draft) → D
 unfolding Def.draft-refusal draft-test-of desk-of
 refusal-view u s g draft = ap (maybe none said) (draft-view draft) ∙ by (real-draft draft)
   where
-    said : Part → Option ℕ
+    said : Part → Option Refusal
     said c = first-of ((Because.Sizes, bad-blocks (u .sizes) (c .size)) ∷ (Because.Part, bad-fdt-part u (state-of (s .fdt .announcer)) c) ∷ [])
 
     by : (d : Draft) → maybe none said (draft-given d) ≡ draft-test-of d (s .fdt)
     by Missing = refl
     by (Given c) = λ i. first-of ((Because.Sizes, bad-blocks (g .sizes i) (c .size)) ∷ (Because.Part, sym (bad-said c u (s .fdt .settings .«fdt_store») (s .fdt .announcer) (g .fdt-store)) i) ∷ [])
-
--- the answer says the refusal
-abbrev Told : Option ℕ → Type 0
-Told none = Unit {0}
-Told (some n) = Def.Answer.refused n ≡ fdt-answer false (RunV.Refused n)
-
-test-told : (d : Draft) (f : Fdt) → Told (draft-test-of d f)
-unfolding draft-test-of
-test-told Missing f = tt
-test-told (Given c) f = by (bad-blocks (f .settings .sizes) (c .size)) (bad-fdt-of (f .settings .«fdt_store») c (f .announcer))
-  where
-    by : (a b : Bool) → Told (first-of ((Because.Sizes, a) ∷ (Because.Part, b) ∷ []))
-    by true b = refl
-    by false true = refl
-    by false false = tt
 
 -- ---- the call
 
@@ -329,10 +314,10 @@ module _ (s : Sender) (now : ℕ) (draft : Draft) (v : Valid s) where
               (ran-matched (s .window) now (real-draft draft) (s .fdt) (s .«fdt_session») (v .holds .valid) (v .matched));
         }
 
-  run-refused : (n : Refusal) → draft-test-of (real-draft draft) (s .fdt) ≡ some n → (a : Def.Answer) → Def.Answer.refused n ≡ a → Kept s (Def.Call.run-fdt now (draft-given draft)) a s
+  run-refused : (why : Refusal) → draft-test-of (real-draft draft) (s .fdt) ≡ some why → Kept s (Def.Call.run-fdt now (draft-given draft)) (Def.Answer.refused why) s
   unfolding Def.step
-  run-refused n e a t = record {
-    means = λ u g. (λ i. Def.unless ((refusal-view u s g draft ∙ e) i) (desk-of s) (Def.fdt-ran u now (Def.draft-of (draft-given draft)) (desk-of s))) ∙ (λ i. (t i, desk-of s));
+  run-refused why e = record {
+    means = λ u g. (λ i. Def.unless ((refusal-view u s g draft ∙ e) i) (desk-of s) (Def.fdt-ran u now (Def.draft-of (draft-given draft)) (desk-of s)));
     agrees = λ u g. g;
     valid = v;
   }
@@ -341,9 +326,9 @@ module _ (s : Sender) (now : ℕ) (draft : Draft) (v : Valid s) where
 pub run-fdt-kept : (s : Sender) (now : ℕ) (draft : Draft) → Valid s
     → Kept s (Def.Call.run-fdt now (draft-given draft)) (fdt-answer (fdt-running-of now draft s .taken) (fdt-running-of now draft s .answer)) (fdt-running-of now draft s .sender)
 unfolding fdt-running-of
-run-fdt-kept s now draft v = by (draft-test-of (real-draft draft) (s .fdt)) refl (test-told (real-draft draft) (s .fdt))
+run-fdt-kept s now draft v = by (draft-test-of (real-draft draft) (s .fdt)) refl
   where
-    by : (o : Option Refusal) → draft-test-of (real-draft draft) (s .fdt) ≡ o → Told o
+    by : (o : Option Refusal) → draft-test-of (real-draft draft) (s .fdt) ≡ o
         → (let r = fdt-running-by now (real-draft draft) s o in Kept s (Def.Call.run-fdt now (draft-given draft)) (fdt-answer (r .taken) (r .answer)) (r .sender))
-    by none e t = run-done s now draft v e
-    by (some n) e t = run-refused s now draft v n e _ t
+    by none e = run-done s now draft v e
+    by (some why) e = run-refused s now draft v why e

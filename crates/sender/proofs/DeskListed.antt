@@ -16,7 +16,7 @@ use Rattle.lifecycle.specs.declared.filedesc.FileDesc.{FileDesc}
 use Rattle.lifecycle.specs.declared.slots.Slot.{Slot}
 use Rattle.lifecycle.proofs.FdtByNumber.{listed-view, transfers-listed}
 use Rattle.definition.specs.Session.{Object, Hand}
-use Rattle.definition.specs.Desk.{Call, Answer, is, listed-in-hands, listed-as, step}
+use Rattle.definition.specs.Desk.{Question, Call, Answer, is, listed-in-hands, listed-as, step}
 use Rattle.sender.specs.SessionCalls.{object-of, hand-of, session-of}
 use Rattle.sender.specs.SenderCalls.{working, desk-of, slot-in, Valid, Kept}
 use Rattle.sender.specs.declared.sendersession.SenderSession.{SenderSession}

@@ -20,7 +20,7 @@ use Rattle.lifecycle.specs.Setup.{Setup}
 use Rattle.lifecycle.specs.FdtCalls.{with-tois, reserved-of, released-of}
 use Rattle.lifecycle.specs.declared.fdt.Fdt.{Fdt}
 use Rattle.lifecycle.proofs.FdtFacts.{if-on, maybe-on}
-use Rattle.definition.specs.Desk.{Call, Answer, Result, unless, step, not-loose, numbered, reserved, unloosed}
+use Rattle.definition.specs.Desk.{reserve-refusal, release-refusal, Call, Answer, Result, unless, step, not-loose, numbered, reserved, unloosed}
 use Rattle.sender.specs.SessionCalls.{Holds}
 use Rattle.sender.specs.FdtSessionCalls.{FdtHolds}
 use Rattle.sender.specs.SenderCalls.{desk-of, Agrees, Valid, Kept, alloc-answer, with-list, reserving-of, releasing-of, completing-of}
@@ -86,7 +86,7 @@ after-reserve s x = (alloc-answer (Alloc.given-said (x .answer)), desk-of (with-
 module _ (s : Sender) (v : Valid s) (u : Setup) (w : Agrees u s) where
   -- refused or not, by the test that the allocator makes
   reserve-tested : (b : Bool) → ltb (s .fdt .tois .entered) toi-entries ≡ b → step u (desk-of s) Call.reserve ≡ (if b then (Answer.number (s .fdt .tois .next), reserved u (desk-of s)) else (Answer.refused Because.Full, desk-of s))
-  unfolding step desk-of
+  unfolding step reserve-refusal desk-of
   reserve-tested b e =
       ap (λ x. unless (first-of ((Because.Full, x) ∷ [])) (desk-of s) (Answer.number (s .fdt .tois .next), reserved u (desk-of s))) (full-view s v ∙ ap not e)
       ∙ elim b as (λ x. unless (first-of ((Because.Full, not x) ∷ [])) (desk-of s) (Answer.number (s .fdt .tois .next), reserved u (desk-of s)) ≡ (if x then (Answer.number (s .fdt .tois .next), reserved u (desk-of s)) else (Answer.refused Because.Full, desk-of s)))
@@ -144,7 +144,7 @@ after-release s x = (alloc-answer (Alloc.known-said (x .answer)), desk-of (with-
 
 module _ (s : Sender) (v : Valid s) (u : Setup) (t : ℕ) where
   release-some : has t (Alloc.loose (s .fdt .tois)) ≡ true → step u (desk-of s) (Call.release t) ≡ after-release s (Alloc.dropped-of true t (s .fdt .tois))
-  unfolding step not-loose numbered unloosed desk-of
+  unfolding step release-refusal not-loose numbered unloosed desk-of
   release-some h =
       let a = s .fdt .tois in
       let r = released-view a (v .holds .valid .tois) t in
@@ -160,7 +160,7 @@ module _ (s : Sender) (v : Valid s) (u : Setup) (t : ℕ) where
       ∙ (λ i. (alloc-answer (Alloc.known-said (sym (released-some t a h) i)), d i))
 
   release-none : has t (Alloc.loose (s .fdt .tois)) ≡ false → step u (desk-of s) (Call.release t) ≡ after-release s (Alloc.dropped-of true t (s .fdt .tois))
-  unfolding step not-loose desk-of
+  unfolding step release-refusal not-loose desk-of
   release-none h =
       let a = s .fdt .tois in
       ap (λ b. unless (first-of ((Because.NotLoose, not b) ∷ [])) (desk-of s) (Answer.done, numbered (desk-of s) (a .next) (unloosed t (Alloc.loose a)))) h

@@ -1,4 +1,5 @@
 -- Why an add is refused: the desk's table is the list's, read off the records.
+use Rattle.sizes.specs.declared.refusal.Refusal.{Refusal}
 use Rattle.sizes.specs.declared.refusal.Refusal.the-variants as Because
 use mathlib.Core.Path.{_≡_, refl, sym, _∙_, ap}
 use mathlib.Core.Bool.{Bool, true, false, not, _||_}
@@ -77,15 +78,15 @@ no-room-view s v NamedV.Anew = λ i. full-slots s v i || full-view s v i
 -- the table: 2, and then the list's own
 pub add-refusal-view : (u : Setup) (s : Sender) → Agrees u s → Valid s → (o : Object) (named : Named)
     → Def.add-refusal u (desk-of s) (named-said named) (object-said o)
-    ≡ (if not (any (has-priority (o .priority)) (working s)) then some 2 else refusal (added-of (s .fdt) (request-of o) named .answer))
+    ≡ (if not (any (has-priority (o .priority)) (working s)) then some Because.NoPriority else refusal (added-of (s .fdt) (request-of o) named .answer))
 unfolding Def.add-refusal desk-of request-of
 add-refusal-view u s a v o named =
     (λ i. first-of
     ((Because.NoPriority, no-session-view s (o .priority) i)
-    ∷ (3, s .fdt .complete)
+    ∷ (Because.Complete, s .fdt .complete)
     ∷ (Because.Sizes, bad-blocks (own-view u (s .fdt .settings .sizes) (a .sizes) o i) (o .part .size))
-    ∷ (5, part-view u s a v (o .part) i)
+    ∷ (Because.Part, part-view u s a v (o .part) i)
     ∷ (Because.NotLoose, not-loose-view s named i)
     ∷ (Because.Full, no-room-view s v named i)
     ∷ []))
-    ∙ ap (λ r. if not (any (has-priority (o .priority)) (working s)) then some 2 else r) (sym (refusal-view (s .fdt) (request-of o) named))
+    ∙ ap (λ r. if not (any (has-priority (o .priority)) (working s)) then some Because.NoPriority else r) (sym (refusal-view (s .fdt) (request-of o) named))

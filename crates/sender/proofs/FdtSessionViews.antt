@@ -22,6 +22,7 @@ use Rattle.lifecycle.specs.declared.fdt.NextOf.{NextOf}
 use Rattle.lifecycle.specs.declared.fdt.Settings.{Settings}
 use Rattle.lifecycle.proofs.AnnounceLaws.{rule-said, state-done}
 use Rattle.lifecycle.proofs.AnnounceLaws as Laws
+use Rattle.definition.proofs.Continued as Cont
 use Rattle.definition.specs.Encoder as DefEncoder
 use Rattle.definition.specs.FdtSession as Def
 use Rattle.sender.specs.EncoderCalls.{encoder-of, symbol-said, emitted-said, new-of, read-of, read-said, Reads}
@@ -61,15 +62,15 @@ module _ (u : Setup) (now : ℕ) (taken : Bool) (again : Bool → Def.Fdt → De
     fdt = record { state = state-of (f .announcer); hand = some record { id = x .id; part = x .encoder .content .part; encoder = y } };
   })
 
-  send-none : x .busy ≡ false → Def.fdt-send u now taken again (fdt-of f x) ≡ record { taken = taken; packet = none; fdt = fdt-of f x }
-  unfolding Def.fdt-send
+  send-none : x .busy ≡ false → Cont.fdt-send u now taken again (fdt-of f x) ≡ record { taken = taken; packet = none; fdt = fdt-of f x }
+  unfolding Cont.fdt-send
   send-none b = rw b
 
   send-some : (w : ℕ) → FdtInHand f w x → u .window ≡ w → u .sizes ≡ f .settings .sizes → x .busy ≡ true
-      → Def.fdt-send u now taken again (fdt-of f x) ≡ answered (read-said false (x .encoder) .1) (read-said false (x .encoder) .0)
-  unfolding Def.fdt-send
+      → Cont.fdt-send u now taken again (fdt-of f x) ≡ answered (read-said false (x .encoder) .1) (read-said false (x .encoder) .0)
+  unfolding Cont.fdt-send
   send-some w h window sizes b =
-      ap (λ c. Def.fdt-send u now taken again (record { state = state-of (f .announcer); hand = if c then handed else none })) b
+      ap (λ c. Cont.fdt-send u now taken again (record { state = state-of (f .announcer); hand = if c then handed else none })) b
       ∙ ap (λ r. answered (r .1) (r .0)) (λ i. DefEncoder.read ((window ∙ sym (h .width)) i) (x .encoder .content .part) ((sizes ∙ sym (h .sizes)) i) false (encoder-of (x .encoder)))
 
 module _ (now : ℕ) (taken : Bool) (f : Fdt) (x : FdtSession) where
@@ -158,7 +159,7 @@ module _ (u : Setup) (w now : ℕ) (g : Fdt) (set : SetFor u w (g .settings)) (a
     (next : (t : Bool) (f : Fdt) → Reached g t f → FdtTurns w g (again t (fdt-of f fdt-idle-of)) (C (record { taken = t; answer = Over; fdt = f; session = fdt-idle-of }))) where
   -- both sends, from a list that was reached
   abbrev Sends : Bool → Fdt → FdtSession → FdtRan → Type 0
-  Sends taken f x r = FdtTurns w g (Def.fdt-send u now taken again (fdt-of f x)) (C r)
+  Sends taken f x r = FdtTurns w g (Cont.fdt-send u now taken again (fdt-of f x)) (C r)
 
   sent-means : (taken : Bool) (f : Fdt) (x : FdtSession) → Reached g taken f → FdtStands f w x → Sends taken f x (fdt-sent-of now taken f x)
   sent-means taken f x re st = go (tested (x .busy))
@@ -167,7 +168,7 @@ module _ (u : Setup) (w now : ℕ) (g : Fdt) (set : SetFor u w (g .settings)) (a
       done-reached = record { holds = fdt-holds-done now f (re .holds); slots = done-slots now f ∙ re .slots; same = objects-on (re .same) (done-objects now f) }
 
       reads : x .busy ≡ true → (r : Read) → Reads false (x .encoder) r → fdt-sent-of now taken f x ≡ fdt-sent-by now taken f x (r .encoder) (r .answer)
-          → Def.fdt-send u now taken again (fdt-of f x) ≡ answered u now taken again f x (read-said false (x .encoder) .1) (read-said false (x .encoder) .0)
+          → Cont.fdt-send u now taken again (fdt-of f x) ≡ answered u now taken again f x (read-said false (x .encoder) .1) (read-said false (x .encoder) .0)
           → (e : Emitted) → r .answer ≡ e → Sends taken f x (fdt-sent-of now taken f x)
       reads b r m a d EmittedV.Nothing e =
           let z : FdtRan = record { taken = taken; answer = Over; fdt = fdt-done-of now f; session = fdt-idle-of } in
@@ -178,7 +179,7 @@ module _ (u : Setup) (w now : ℕ) (g : Fdt) (set : SetFor u w (g .settings)) (a
       reads b r m a d (EmittedV.One s) e =
           let z : FdtRan = record { taken = taken; answer = Sent s; fdt = f; session = after x (r .encoder) } in
           subst (Sends taken f x) (sym (a ∙ ap (fdt-sent-by now taken f x (r .encoder)) e))
-          (subst (FdtTurns w g (Def.fdt-send u now taken again (fdt-of f x))) (sym (packet taken s f (after x (r .encoder)))) (record {
+          (subst (FdtTurns w g (Cont.fdt-send u now taken again (fdt-of f x))) (sym (packet taken s f (after x (r .encoder)))) (record {
             view = d ∙ (λ i. answered u now taken again f x (sym (m .next) i) ((sym (m .said) ∙ ap emitted-said e) i))
                 ∙ (λ i. record {
                   taken = taken;
@@ -195,7 +196,7 @@ module _ (u : Setup) (w now : ℕ) (g : Fdt) (set : SetFor u w (g .settings)) (a
           }))
 
       go : Tested (x .busy) → Sends taken f x (fdt-sent-of now taken f x)
-      go (fail b) = subst (Sends taken f x) (sym (sent-none now taken f x b)) (subst (FdtTurns w g (Def.fdt-send u now taken again (fdt-of f x))) (sym (still taken f x))
+      go (fail b) = subst (Sends taken f x) (sym (sent-none now taken f x b)) (subst (FdtTurns w g (Cont.fdt-send u now taken again (fdt-of f x))) (sym (still taken f x))
           (record { view = send-none u now taken again f x b; holds = re .holds; stands = st; slots = re .slots; same = re .same }))
       go (pass b) = reads b (read-of false (x .encoder)) (read-means false (x .encoder) (st .busy b .encoder)) (sent-some now taken f x b)
           (send-some u now taken again f x w (st .busy b) (set .window) (set .sizes ∙ sym (ap (λ (z : Settings). z .sizes) (re .same .settings))) b)
@@ -229,24 +230,24 @@ module _ (u : Setup) (w now : ℕ) (g : Fdt) (set : SetFor u w (g .settings)) (a
     abbrev sends-anew : Option Part → Def.FdtTurn
     sends-anew o =
         let d = DefState.next-fdt u now o (state-of (f .announcer)) in
-        Def.fdt-send u now (taken || d .taken) again (record { state = d .state; hand = maybe none begun-said (d .starts) })
+        Cont.fdt-send u now (taken || d .taken) again (record { state = d .state; hand = maybe none begun-said (d .starts) })
 
-    next-same : x .busy ≡ false → Def.fdt-send u now (taken || n .taken) again (fdt-of (n .fdt) y) ≡ sends-anew (if taken then none else draft-given draft)
+    next-same : x .busy ≡ false → Cont.fdt-send u now (taken || n .taken) again (fdt-of (n .fdt) y) ≡ sends-anew (if taken then none else draft-given draft)
     next-same b =
         let hand : fdt-hand-of y ≡ maybe none begun-said (asked u w now f set-here (re .holds) (left-of draft taken) .starts) =
         begins-hand w (f .settings .sizes) x (n .fdt .announcer) (n .starts) b ∙ ap (maybe none begun-said) (asked-starts u w now f set-here (re .holds) (left-of draft taken)) in
-        (λ i. Def.fdt-send u now (taken || asked-taken u w now f set-here (re .holds) (left-of draft taken) i) again
+        (λ i. Cont.fdt-send u now (taken || asked-taken u w now f set-here (re .holds) (left-of draft taken) i) again
         (record { state = asked-state u w now f set-here (re .holds) (left-of draft taken) i; hand = hand i }))
         ∙ ap sends-anew (draft-left draft taken)
 
-    attempted-means : FdtTurns w g (Def.fdt-attempt u now (draft-given draft) again taken (fdt-of f x)) (C (fdt-attempted-of w now draft taken f x))
-    unfolding Def.fdt-attempt fdt-attempted-of
+    attempted-means : FdtTurns w g (Cont.fdt-attempt u now (draft-given draft) again taken (fdt-of f x)) (C (fdt-attempted-of w now draft taken f x))
+    unfolding Cont.fdt-attempt fdt-attempted-of
     attempted-means = go (tested (x .busy))
       where
         -- both attempts, by whether an FDT is in hand
         P : Bool → Type 0
         P b = FdtTurns w g
-            (if given (if b then handed u now taken again f x else none) then Def.fdt-send u now taken again (fdt-of f x) else sends-anew (if taken then none else draft-given draft))
+            (if given (if b then handed u now taken again f x else none) then Cont.fdt-send u now taken again (fdt-of f x) else sends-anew (if taken then none else draft-given draft))
             (C (if b then fdt-sent-of now taken f x else fdt-sent-of now (taken || n .taken) (n .fdt) y))
 
         go : Tested (x .busy) → P (x .busy)
@@ -258,16 +259,16 @@ module _ (u : Setup) (w now : ℕ) (g : Fdt) (set : SetFor u w (g .settings)) (a
 module _ (u : Setup) (w now : ℕ) (draft : Draft) (f : Fdt) (x : FdtSession) (set : SetFor u w (f .settings)) (tries : FdtTries f w draft x) (st : FdtStands f w x) where
   -- the second round is the last
   second-means : (taken : Bool) (r : Fdt) (y : FdtSession) → Reached f taken r → FdtStands r w y
-      → FdtTurns w f (Def.fdt-attempt u now (draft-given draft) Def.fdt-idle taken (fdt-of r y)) (fdt-attempted-of w now draft taken r y)
+      → FdtTurns w f (Cont.fdt-attempt u now (draft-given draft) Def.fdt-idle taken (fdt-of r y)) (fdt-attempted-of w now draft taken r y)
   second-means taken r y re s = attempted-means u w now f set Def.fdt-idle (λ a. a) (λ t g z. refl) (λ t s g z. refl)
       (λ t g k. record { view = refl; holds = k .holds; stands = fdt-idle-stands g w; slots = k .slots; same = k .same })
       draft (tries .looked) (tries .narrow) taken r y re s
 
   pub fdt-ran-means : FdtTurns w f (Def.fdt-run u now (draft-given draft) (fdt-of f x)) (fdt-ran-of w now draft f x)
-  unfolding Def.fdt-run fdt-ran-of
-  fdt-ran-means = attempted-means u w now f set (Def.fdt-attempt u now (draft-given draft) Def.fdt-idle) (λ a. fdt-again-by w now draft a (a .answer)) (λ t g z. refl) (λ t s g z. refl)
+  unfolding Cont.fdt-continued-run fdt-ran-of
+  fdt-ran-means = subst (λ m. FdtTurns w f m (fdt-ran-of w now draft f x)) (sym (Cont.fdt-same-run u now (draft-given draft) (fdt-of f x))) (attempted-means u w now f set (Cont.fdt-attempt u now (draft-given draft) Def.fdt-idle) (λ a. fdt-again-by w now draft a (a .answer)) (λ t g z. refl) (λ t s g z. refl)
       (λ t g k. second-means t g fdt-idle-of k (fdt-idle-stands g w))
-      draft (tries .looked) (tries .narrow) false f x (record { holds = tries .holds; slots = refl; same = objects-same f }) st
+      draft (tries .looked) (tries .narrow) false f x (record { holds = tries .holds; slots = refl; same = objects-same f }) st)
 
   -- the same, part by part
   pub fdt-ran-view : Def.fdt-run u now (draft-given draft) (fdt-of f x) ≡ fdt-turn-of (fdt-ran-of w now draft f x)

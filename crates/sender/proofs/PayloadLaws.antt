@@ -26,16 +26,12 @@ unfolding past-store
 lies-in n c h = ltb-false n (c .start + c .size) h
 
 -- an answer of every kind but the first has no packet
-pub no-packet : (m : Stores) (a : RunAnswer) → OneOf (1 ∷ 2 ∷ 3 ∷ 4 ∷ []) (tagOf the-type a) → [] ≡ payload-of m (packet-in a)
+pub no-packet : (m : Stores) (a : RunAnswer) → OneOf (1 ∷ 2 ∷ []) (tagOf the-type a) → [] ≡ payload-of m (packet-in a)
 unfolding payload-of place-of
 no-packet m (RunV.Packet p) (inl h) = absurd (omega arith)
-no-packet m (RunV.Packet p) (inr (inl h)) = absurd (omega arith)
-no-packet m (RunV.Packet p) (inr (inr (inl h))) = absurd (omega arith)
-no-packet m (RunV.Packet p) (inr (inr (inr h))) = absurd (omega arith)
+no-packet m (RunV.Packet p) (inr h) = absurd (omega arith)
 no-packet m RunV.Nothing h = refl
-no-packet m RunV.Sizes h = refl
-no-packet m RunV.Part h = refl
-no-packet m RunV.NoSession h = refl
+no-packet m (RunV.Refused why) h = refl
 
 -- where the payload of a packet stands
 module _ (p : Packet) where

@@ -1,4 +1,5 @@
 -- Each call from outside keeps its promise.
+use Rattle.sizes.specs.declared.refusal.Refusal.the-variants as Because
 use mathlib.Core.Path.{_≡_, refl, sym, _∙_, ap, subst}
 use mathlib.Core.Bool.{true, false, true≢false}
 use mathlib.Core.Option.{Option, none, some}
@@ -102,7 +103,7 @@ module _ (s : Sender) (v : Valid s) where
       admits = holds-added (s .fdt) (v .holds) (v .object-store) (request-of o) named
 
 -- the two cases of an add
-pub add-refused : (o : Object) (named : Named) (s : Sender) → any (has-priority (o .priority)) (working s) ≡ false → adding-of o named s ≡ record { answer = AddV.NoSession; sender = s }
+pub add-refused : (o : Object) (named : Named) (s : Sender) → any (has-priority (o .priority)) (working s) ≡ false → adding-of o named s ≡ record { answer = AddV.Refused Because.NoPriority; sender = s }
 unfolding adding-of
 add-refused o named s e = rw e
 
@@ -118,7 +119,7 @@ get-same (x ∷ l) zero a b h = refl
 get-same (x ∷ l) (suc i) a b h = get-same l i a b (omega arith)
 
 -- the two cases of a run of a file session
-pub run-refused : (i now : ℕ) (s : Sender) → s .count ≤ i → running-of i now s ≡ record { taken = false; answer = RunV.NoSession; sender = s }
+pub run-refused : (i now : ℕ) (s : Sender) → s .count ≤ i → running-of i now s ≡ record { taken = false; answer = RunV.Refused Because.NoSession; sender = s }
 unfolding running-of
 run-refused i now s h = rw (le-ltb i (s .count) h)
 
@@ -143,7 +144,7 @@ read-session s v i z h = let a = v .few in let b = v .long in get-same (s .sessi
 
 -- ---- a run of the FDT session
 
-given-none : (o : Option ℕ) → given o ≡ false → o ≡ none
+given-none : {A : Type 0} (o : Option A) → given o ≡ false → o ≡ none
 given-none none e = refl
 given-none (some n) e = absurd (true≢false e)
 

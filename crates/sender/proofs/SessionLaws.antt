@@ -1,4 +1,5 @@
 -- Laws of the file sessions: every call of the list keeps its objects good, an object that is taken in hand is ready, and after a run the session may be run again.
+use Rattle.sizes.specs.declared.refusal.Refusal.{Refusal}
 use Rattle.sizes.specs.declared.refusal.Refusal.the-variants as Because
 use mathlib.Core.Path.{_≡_, refl, sym, _∙_, ap, subst}
 use mathlib.Core.Bool.{Bool, true, false, _||_, false≢true}
@@ -185,7 +186,7 @@ module _ (f : Fdt) (h : Holds f) where
       z : Sizes
       z = own-of (q .own) (f .settings .sizes)
 
-      first-none : (n : ℕ) (b : Bool) {o : Option ℕ} → none ≡ (if b then some n else o) → (b ≡ false) × (none ≡ o)
+      first-none : (n : Refusal) (b : Bool) {o : Option Refusal} → none ≡ (if b then some n else o) → (b ≡ false) × (none ≡ o)
       first-none n true e = absurd (none≢some e)
       first-none n false e = (refl, e)
 
@@ -194,9 +195,9 @@ module _ (f : Fdt) (h : Holds f) where
           → ListAdds f q z named r → Holds (r .fdt)
       go r v a (refused b n e) = subst (λ (x : Added). Holds (x .fdt)) (sym e) h
       go r v a (admits k t w) =
-          let c = first-none 3 (f .complete) (sym (ap refusal (w .answer)) ∙ a) in
-          let s = first-none 4 (bad-blocks z (q .part .size)) (c .1) in
-          let p = first-none 5 (bad-part-of f (q .part)) (s .1) in
+          let c = first-none Because.Complete (f .complete) (sym (ap refusal (w .answer)) ∙ a) in
+          let s = first-none Because.Sizes (bad-blocks z (q .part .size)) (c .1) in
+          let p = first-none Because.Part (bad-part-of f (q .part)) (s .1) in
           let o = ltb-false (f .settings .«object_store») (q .part .start + q .part .size) (or-left (past-store (f .settings .«object_store») (q .part)) (any (holds-byte (q .part)) (f .slots)) (p .0)) in
           holds-seen f h (r .fdt) v (w .view) (λ u. record { sizes = s .0; fits = omega arith })
 

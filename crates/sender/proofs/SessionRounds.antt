@@ -19,6 +19,7 @@ use Rattle.lifecycle.specs.declared.slots.Slot.{Slot}
 use Rattle.lifecycle.specs.declared.fdt.Fdt.{Fdt}
 use Rattle.lifecycle.proofs.FileDescLaws.{life-done, ticked-view}
 use Rattle.lifecycle.proofs.FdtViews.{done-view}
+use Rattle.definition.proofs.Continued as Cont
 use Rattle.definition.specs.Encoder as DefEncoder
 use Rattle.definition.specs.Session as Def
 use Rattle.sender.specs.EncoderCalls.{encoder-of, symbol-said, emitted-said, read-of, read-said, Reads}
@@ -42,7 +43,7 @@ in-hand f x = hand-of (slot-at (f .slots) (x .slot)) x
 
 -- the definition's round, which goes on with again
 abbrev pub goes : Setup → ℕ → Fdt → SenderSession → (List Def.Object → Def.Turn) → Def.Turn
-goes u now f x again = Def.go-on u now (waits-of (f .announcer)) again (queue-of f) (in-hand f x)
+goes u now f x again = Cont.go-on u now (waits-of (f .announcer)) again (queue-of f) (in-hand f x)
 
 -- the session after a packet
 abbrev pub after : SenderSession → BlockEncoder → SenderSession
@@ -83,16 +84,16 @@ module _ (u : Setup) (now w : ℕ) (f : Fdt) (x : SenderSession) (h : InHand f w
 
   module _ (again : List Def.Object → Def.Turn) where
     goes-blocked : waits-of (f .announcer) ≡ true → goes u now f x again ≡ Def.idle (queue-of f) (some (in-hand f x))
-    unfolding Def.go-on
+    unfolding Cont.go-on
     goes-blocked b = rw b
 
     goes-early : waits-of (f .announcer) ≡ false → early now f x ≡ true → goes u now f x again ≡ Def.idle (queue-of f) (some (in-hand f x))
-    unfolding Def.go-on Def.serve
+    unfolding Cont.go-on Cont.serve
     goes-early b t = rw (b, t)
 
     goes-read : waits-of (f .announcer) ≡ false → early now f x ≡ false
         → goes u now f x again ≡ maybe (again (Def.put-back now (in-hand f x) (queue-of f))) (Def.sent (queue-of f) (in-hand f x) (read-said (force now f x) (x .encoder) .1)) (read-said (force now f x) (x .encoder) .0)
-    unfolding Def.go-on Def.serve
+    unfolding Cont.go-on Cont.serve
     goes-read b t = rw (b, t) (ap (λ r. maybe (again (Def.put-back now (in-hand f x) (queue-of f))) (Def.sent (queue-of f) (in-hand f x) (r .1)) (r .0)) read-same)
 
   pub attended-view : Attends u now w f x (attended-of now f x)

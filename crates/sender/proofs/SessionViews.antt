@@ -25,6 +25,7 @@ use Rattle.lifecycle.specs.declared.fdt.Taken.{Taken}
 use Rattle.lifecycle.proofs.FdtFacts.{used-sends}
 use Rattle.lifecycle.proofs.FdtViews.{at-each, taken-view}
 use Rattle.lifecycle.proofs.FdtSent.{done-sent}
+use Rattle.definition.proofs.Continued as Cont
 use Rattle.definition.specs.Session as Def
 use Rattle.sender.specs.EncoderCalls.{new-of}
 use Rattle.sender.specs.SessionCalls.{object-of, hand-of, session-of, Holds, Runs, idle-of, begun-of, attended-of, taken-by, taken-on-of, again-by, ran-of}
@@ -158,12 +159,12 @@ module _ (u : Setup) (w now : ℕ) (window : u .window ≡ w) (narrow : w ≤ la
     begun-same = ap (λ (v : Slot). hand-of v (begun-of w now (x .priority) k (v .file))) (s .new) ∙ begun-hand w now (x .priority) k (slot-at (f .slots) k) (wt .is-listed)
 
     -- the definition takes the same object
-    take-same : Def.take-on u (x .priority) now (waits-of (f .announcer)) last (queue-of f) ≡ goes u now t y last
-    unfolding Def.take-on
+    take-same : Cont.take-on u (x .priority) now (waits-of (f .announcer)) last (queue-of f) ≡ goes u now t y last
+    unfolding Cont.take-on
     take-same =
-        ap (maybe (last (queue-of f)) (λ o. Def.go-on u now (waits-of (f .announcer)) last (drop-first (Def.startable (x .priority) now) (queue-of f)) (Def.begin now o)))
+        ap (maybe (last (queue-of f)) (λ o. Cont.go-on u now (waits-of (f .announcer)) last (drop-first (Def.startable (x .priority) now) (queue-of f)) (Def.begin now o)))
         (find-startable f (g .valid) (x .priority) now ∙ ap (over object-of) (hi .first))
-        ∙ (λ i. Def.go-on u now (waits-of (sym (st .announcer) i)) last ((drop-startable f (g .valid) (x .priority) now ∙ ap (map object-of) (hi .rest ∙ sym (s .queue))) i) (sym begun-same i))
+        ∙ (λ i. Cont.go-on u now (waits-of (sym (st .announcer) i)) last ((drop-startable f (g .valid) (x .priority) now ∙ ap (map object-of) (hi .rest ∙ sym (s .queue))) i) (sym begun-same i))
 
     -- in transfer from now on: slot k, which was not, and those that were
     k-unsent : (j : ℕ) → eqb k j ≡ true → sends (slot-at (f .slots) j) ≡ false
@@ -198,52 +199,52 @@ module _ (u : Setup) (w now : ℕ) (window : u .window ≡ w) (narrow : w ≤ la
       same = same-on st (h .same);
     }
 
-    taken-means : FileRuns w f x (Def.take-on u (x .priority) now (waits-of (f .announcer)) last (queue-of f)) (attended-of now t y)
+    taken-means : FileRuns w f x (Cont.take-on u (x .priority) now (waits-of (f .announcer)) last (queue-of f)) (attended-of now t y)
     unfolding begun-of
     taken-means = subst (λ m. FileRuns w f x m (attended-of now t y)) (sym take-same) (starts (goes u now t y last) (attended-of now t y)
         (attended-means now w t gt y begun-in refl u window last (λ a. a) (λ z. refl) (λ s z. refl)
         (nothing-means w (done-of now (y .slot) t) (holds-done t gt now (y .slot)) (idle-of (y .priority)) refl Over (λ t. refl))))
 
   -- nothing may start
-  take-none : place (startable-file (x .priority) now) (files f) ≡ none → Def.take-on u (x .priority) now (waits-of (f .announcer)) last (queue-of f) ≡ last (queue-of f)
-  unfolding Def.take-on
+  take-none : place (startable-file (x .priority) now) (files f) ≡ none → Cont.take-on u (x .priority) now (waits-of (f .announcer)) last (queue-of f) ≡ last (queue-of f)
+  unfolding Cont.take-on
   take-none e =
-      ap (maybe (last (queue-of f)) (λ o. Def.go-on u now (waits-of (f .announcer)) last (drop-first (Def.startable (x .priority) now) (queue-of f)) (Def.begin now o)))
+      ap (maybe (last (queue-of f)) (λ o. Cont.go-on u now (waits-of (f .announcer)) last (drop-first (Def.startable (x .priority) now) (queue-of f)) (Def.begin now o)))
       (find-startable f (g .valid) (x .priority) now ∙ ap (over object-of) (found-none (startable-file (x .priority) now) (files f) e .0))
 
   -- the whole round with nothing in hand
-  taken-on-means : FileRuns w f x (Def.take-on u (x .priority) now (waits-of (f .announcer)) last (queue-of f)) (taken-on-of w now f x)
+  taken-on-means : FileRuns w f x (Cont.take-on u (x .priority) now (waits-of (f .announcer)) last (queue-of f)) (taken-on-of w now f x)
   unfolding taken-on-of
   taken-on-means = go (taken-of (x .priority) now f) (holds-taken f (x .priority) now g) (taken-side f (x .priority) now) (taken-view f (g .valid) (x .priority) now)
     where
-      go : (t : Taken) → Holds (t .fdt) → SameSide f (t .fdt) → Takes (x .priority) now f t → FileRuns w f x (Def.take-on u (x .priority) now (waits-of (f .announcer)) last (queue-of f)) (taken-by w now (t .fdt) x (t .answer))
+      go : (t : Taken) → Holds (t .fdt) → SameSide f (t .fdt) → Takes (x .priority) now f t → FileRuns w f x (Cont.take-on u (x .priority) now (waits-of (f .announcer)) last (queue-of f)) (taken-by w now (t .fdt) x (t .answer))
       go t gt st (nothing e q) =
-          subst (λ (b : Taken). FileRuns w f x (Def.take-on u (x .priority) now (waits-of (f .announcer)) last (queue-of f)) (taken-by w now (b .fdt) x (b .answer))) (sym q)
+          subst (λ (b : Taken). FileRuns w f x (Cont.take-on u (x .priority) now (waits-of (f .announcer)) last (queue-of f)) (taken-by w now (b .fdt) x (b .answer))) (sym q)
           (subst (λ m. FileRuns w f x m (record { answer = Idle; fdt = f; session = x })) (sym (take-none e)) (nothing-means w f g x empty Idle (λ t. refl)))
-      go t gt st (takes n k hi wt a s) = subst (λ (b : Place). FileRuns w f x (Def.take-on u (x .priority) now (waits-of (f .announcer)) last (queue-of f)) (taken-by w now (t .fdt) x b)) (sym a) (taken-means (t .fdt) gt st n k hi wt s)
+      go t gt st (takes n k hi wt a s) = subst (λ (b : Place). FileRuns w f x (Cont.take-on u (x .priority) now (waits-of (f .announcer)) last (queue-of f)) (taken-by w now (t .fdt) x b)) (sym a) (taken-means (t .fdt) gt st n k hi wt s)
 
 -- ---- the whole run
 
 module _ (u : Setup) (w now : ℕ) (window : u .window ≡ w) (f : Fdt) (x : SenderSession) (runs : Runs f w x) (st : Stands f w x) where
   -- the definition's second round
   abbrev anew : List Def.Object → Def.Turn
-  anew = Def.take-on u (x .priority) now (waits-of (f .announcer)) last
+  anew = Cont.take-on u (x .priority) now (waits-of (f .announcer)) last
 
   -- the end of a transfer, and another
   next-means : FileRuns w (done-of now (x .slot) f) (idle-of (x .priority)) (anew (queue-of (done-of now (x .slot) f))) (taken-on-of w now (done-of now (x .slot) f) (idle-of (x .priority)))
   next-means =
       let d = done-of now (x .slot) f in
-      subst (λ b. FileRuns w d (idle-of (x .priority)) (Def.take-on u (x .priority) now (waits-of b) last (queue-of d)) (taken-on-of w now d (idle-of (x .priority))))
+      subst (λ b. FileRuns w d (idle-of (x .priority)) (Cont.take-on u (x .priority) now (waits-of b) last (queue-of d)) (taken-on-of w now d (idle-of (x .priority))))
       (done-side f (runs .holds .valid) now (x .slot) .announcer)
       (taken-on-means u w now window (runs .narrow) d (holds-done f (runs .holds) now (x .slot)) (idle-of (x .priority)) refl)
 
   pub ran-means : FileRuns w f x (Def.file-run u (x .priority) now (waits-of (f .announcer)) (queue-of f) (session-of (f .slots) x .hand)) (ran-of w now f x)
-  unfolding Def.file-run ran-of
-  ran-means = go (tested (x .busy))
+  unfolding Cont.continued-run ran-of
+  ran-means = subst (λ m. FileRuns w f x m (ran-of w now f x)) (sym (Cont.same-run u (x .priority) now (waits-of (f .announcer)) (queue-of f) (session-of (f .slots) x .hand))) (go (tested (x .busy)))
     where
       -- both runs, by whether an object is in hand
       P : Bool → Type 0
-      P b = FileRuns w f x (maybe (anew (queue-of f)) (Def.go-on u now (waits-of (f .announcer)) anew (queue-of f)) (if b then some (in-hand f x) else none))
+      P b = FileRuns w f x (maybe (anew (queue-of f)) (Cont.go-on u now (waits-of (f .announcer)) anew (queue-of f)) (if b then some (in-hand f x) else none))
           (if b then again-by w now (attended-of now f x) (attended-of now f x .answer) else taken-on-of w now f x)
 
       go : Tested (x .busy) → P (x .busy)

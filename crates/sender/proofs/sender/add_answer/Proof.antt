@@ -26,19 +26,19 @@ returns : tie.Need-returns
 returns c = ap admission-said (sym (c .before .a .given .1))
 
 returns-2 : tie.Need-returns-2
-returns-2 c = search needs
+returns-2 c = ap admission-said (sym (c .enum-told .given .1))
 
 returns-3 : tie.Need-returns-3
-returns-3 c = search needs
+returns-3 c = ap admission-said (sym (c .enum-told2 .given .1))
 
 returns-4 : tie.Need-returns-4
-returns-4 c = search needs
+returns-4 c = ap admission-said (sym (c .enum-told3 .given .1))
 
 returns-5 : tie.Need-returns-5
-returns-5 c = search needs
+returns-5 c = ap admission-said (sym (c .enum-told4 .given .1))
 
 returns-6 : tie.Need-returns-6
-returns-6 c = search needs
+returns-6 c = ap admission-said (sym (c .enum-told5 .given .1))
 
 pub add-answer-spec : {M : Type 1} → statement M
 add-answer-spec =
