@@ -5,7 +5,7 @@ use mathlib.Core.Option.{Option, none, some}
 use mathlib.Core.List.{List, [], _∷_, _++_, map}
 use Prim.Native.Nat.{ℕ}
 use lib.Dec.{eqb}
-use Rattle.sizes.specs.Words.{if_then_else_, keep, find, drop-first}
+use Rattle.sizes.specs.Words.{if_then_else_, find, drop-first}
 use Rattle.sizes.specs.Words.{over as perhaps}
 use Rattle.definition.specs.Encoder.{Symbol}
 use Rattle.lifecycle.specs.Lifecycle.{too-early, expired, finished, may-start}
@@ -78,30 +78,6 @@ module _ (p : ℕ) (f : ℕ → ℕ) where
   seen-map g g′ [] u = refl
   seen-map g g′ (o ∷ q) u = rw (u .0 .0) ((elim (mine p o) as (λ t. mine p o ≡ t → (if t then retag f (g o) ∷ seen (map g q) else seen (map g q)) ≡ map g′ (if t then retag f o ∷ seen q else seen q))
       [ true ↦ λ e. (λ i. u .0 .1 e i ∷ seen-map g g′ q (u .1) i) | false ↦ λ e. seen-map g g′ q (u .1) ]) refl)
-
-  pub seen-keep : (ok ok′ : Object → Bool) (q : List Object) → Each (λ o. mine p o ≡ true → ok′ (retag f o) ≡ ok o) q
-      → seen (keep ok q) ≡ keep ok′ (seen q)
-  seen-keep ok ok′ [] u = refl
-  seen-keep ok ok′ (o ∷ q) u = (elim (mine p o) as (λ t. mine p o ≡ t → seen (if ok o then o ∷ keep ok q else keep ok q) ≡ keep ok′ (if t then retag f o ∷ seen q else seen q)) [
-    | true ↦ λ e. rw (u .0 e) (elim (ok o) as (λ b. seen (if b then o ∷ keep ok q else keep ok q) ≡ (if b then retag f o ∷ keep ok′ (seen q) else keep ok′ (seen q)))
-        [ true ↦ rw e (ap (λ l. retag f o ∷ l) (seen-keep ok ok′ q (u .1))) | false ↦ seen-keep ok ok′ q (u .1) ])
-    | false ↦ λ e. elim (ok o) as (λ b. seen (if b then o ∷ keep ok q else keep ok q) ≡ keep ok′ (seen q))
-        [ true ↦ rw e (seen-keep ok ok′ q (u .1)) | false ↦ seen-keep ok ok′ q (u .1) ]
-  ]) refl
-
-  -- what is seen does not change where the priority's objects stay
-  pub seen-kept : (ok : Object → Bool) (q : List Object) → Each (λ o. mine p o ≡ true → ok o ≡ true) q → seen (keep ok q) ≡ seen q
-  seen-kept ok [] u = refl
-  seen-kept ok (o ∷ q) u = (elim (mine p o) as (λ t. mine p o ≡ t → seen (if ok o then o ∷ keep ok q else keep ok q) ≡ (if t then retag f o ∷ seen q else seen q)) [
-    | true ↦ λ e. rw (u .0 e) (rw e (ap (λ l. retag f o ∷ l) (seen-kept ok q (u .1))))
-    | false ↦ λ e. elim (ok o) as (λ b. seen (if b then o ∷ keep ok q else keep ok q) ≡ seen q)
-        [ true ↦ rw e (seen-kept ok q (u .1)) | false ↦ seen-kept ok q (u .1) ]
-  ]) refl
-
-  pub seen-unmoved : (g : Object → Object) (q : List Object) → Each (λ o. (mine p (g o) ≡ mine p o) × (mine p o ≡ true → g o ≡ o)) q → seen (map g q) ≡ seen q
-  seen-unmoved g [] u = refl
-  seen-unmoved g (o ∷ q) u = rw (u .0 .0) ((elim (mine p o) as (λ t. mine p o ≡ t → (if t then retag f (g o) ∷ seen (map g q) else seen (map g q)) ≡ (if t then retag f o ∷ seen q else seen q))
-      [ true ↦ λ e. (λ i. retag f (u .0 .1 e i) ∷ seen-unmoved g q (u .1) i) | false ↦ λ e. seen-unmoved g q (u .1) ]) refl)
 
   -- a turn as it is seen
   abbrev pub see-turn : Turn → Turn

@@ -40,10 +40,10 @@ module _ (f : Fdt) (v : Valid f) (q : Request) (z : Sizes) where
       if-on (ListAdds f q z (NamedV.Toi t)) (has t (Alloc.loose (f .tois)))
       (λ l. maybe-on (ListAdds f q z (NamedV.Toi t)) (place is-free (f .slots)) (λ e. no-room)
       (λ k e. admits k t (record { answer = refl; found = e; free = free-at f v k e .1; number = (refl, l, refl); view = put-view (Alloc.claimed-of t (f .tois) .allocator) k t e })))
-      (λ l. refused AdmissionV.Unknown (λ n e. let z : _≡_ {A = ℕ} 0 1 = cc in omega arith) refl)
+      (λ l. refused Because.NotLoose refl)
     where
-      no-room : ListAdds f q z (NamedV.Toi t) (refuses f AdmissionV.Full)
-      no-room = refused AdmissionV.Full (λ n e. let z : _≡_ {A = ℕ} 0 1 = cc in omega arith) refl
+      no-room : ListAdds f q z (NamedV.Toi t) (refuses f Because.Full)
+      no-room = refused Because.Full refl
 
   fresh-view : ListAdds f q z NamedV.Anew (fresh-of f q z)
   unfolding fresh-of put-of
@@ -61,8 +61,8 @@ module _ (f : Fdt) (v : Valid f) (q : Request) (z : Sizes) where
       }))
       (λ l. no-room))
     where
-      no-room : ListAdds f q z NamedV.Anew (refuses f AdmissionV.Full)
-      no-room = refused AdmissionV.Full (λ n e. let z : _≡_ {A = ℕ} 0 1 = cc in omega arith) refl
+      no-room : ListAdds f q z NamedV.Anew (refuses f Because.Full)
+      no-room = refused Because.Full refl
 
   numbered-view : (named : Named) → ListAdds f q z named (numbered-of f q z named)
   unfolding numbered-of
@@ -73,9 +73,9 @@ pub added-view : (f : Fdt) → Valid f → (q : Request) (named : Named) → Lis
 unfolding added-of
 added-view f v q named =
     let z = own-of (q .own) (f .settings .sizes) in
-    if-on (ListAdds f q z named) (f .complete) (λ e. refused AdmissionV.Complete (λ n e. let z : _≡_ {A = ℕ} 0 1 = cc in omega arith) refl) (λ e.
-    if-on (ListAdds f q z named) (bad-blocks z (q .part .size)) (λ e. refused AdmissionV.Sizes (λ n e. let z : _≡_ {A = ℕ} 0 1 = cc in omega arith) refl) (λ e.
-    if-on (ListAdds f q z named) (bad-part-of f (q .part)) (λ e. refused AdmissionV.Part (λ n e. let z : _≡_ {A = ℕ} 0 1 = cc in omega arith) refl) (λ e.
+    if-on (ListAdds f q z named) (f .complete) (λ e. refused Because.Complete refl) (λ e.
+    if-on (ListAdds f q z named) (bad-blocks z (q .part .size)) (λ e. refused Because.Sizes refl) (λ e.
+    if-on (ListAdds f q z named) (bad-part-of f (q .part)) (λ e. refused Because.Part refl) (λ e.
     numbered-view f v q z named)))
 
 -- ---- refusals 3 to 7, in their order
@@ -90,7 +90,7 @@ module _ (f : Fdt) (q : Request) where
   refused-numbered z (NamedV.Toi t) = go (has t (Alloc.loose (f .tois))) (place is-free (f .slots))
     where
       go : (b : Bool) (o : Option ℕ)
-          → refusal ((if b then maybe (refuses f AdmissionV.Full) (λ k. record { answer = AdmissionV.Toi t; fdt = put-of (with-tois f (Alloc.claimed-of t (f .tois) .allocator)) k t q z }) o else refuses f AdmissionV.Unknown) .answer)
+          → refusal ((if b then maybe (refuses f Because.Full) (λ k. record { answer = AdmissionV.Toi t; fdt = put-of (with-tois f (Alloc.claimed-of t (f .tois) .allocator)) k t q z }) o else refuses f Because.NotLoose) .answer)
           ≡ first-of ((Because.NotLoose, not b) ∷ (Because.Full, not (given o)) ∷ [])
       go true none = refl
       go true (some k) = refl
@@ -98,7 +98,7 @@ module _ (f : Fdt) (q : Request) where
   refused-numbered z NamedV.Anew = go (ltb (f .tois .entered) toi-entries) (place is-free (f .slots))
     where
       go : (b : Bool) (o : Option ℕ)
-          → refusal (maybe (refuses f AdmissionV.Full) (λ k. if b then record { answer = AdmissionV.Toi (f .tois .next); fdt = put-of (with-tois f (Alloc.allocated-of false (f .tois) .allocator)) k (f .tois .next) q z } else refuses f AdmissionV.Full) o .answer)
+          → refusal (maybe (refuses f Because.Full) (λ k. if b then record { answer = AdmissionV.Toi (f .tois .next); fdt = put-of (with-tois f (Alloc.allocated-of false (f .tois) .allocator)) k (f .tois .next) q z } else refuses f Because.Full) o .answer)
           ≡ first-of ((Because.NotLoose, false) ∷ (Because.Full, not (given o) || not b) ∷ [])
       go b none = refl
       go true (some k) = refl
@@ -109,6 +109,6 @@ module _ (f : Fdt) (q : Request) where
   unfolding added-of
   refusal-view named =
       let z = own-of (q .own) (f .settings .sizes) in
-      refused-first Because.Complete (f .complete) (refuses f AdmissionV.Complete) _ refl
-      (refused-first Because.Sizes (bad-blocks z (q .part .size)) (refuses f AdmissionV.Sizes) _ refl
-      (refused-first Because.Part (bad-part-of f (q .part)) (refuses f AdmissionV.Part) _ refl (refused-numbered z named)))
+      refused-first Because.Complete (f .complete) (refuses f Because.Complete) _ refl
+      (refused-first Because.Sizes (bad-blocks z (q .part .size)) (refuses f Because.Sizes) _ refl
+      (refused-first Because.Part (bad-part-of f (q .part)) (refuses f Because.Part) _ refl (refused-numbered z named)))

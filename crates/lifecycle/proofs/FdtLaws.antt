@@ -8,6 +8,7 @@ use native.Mathlib.Omega.{arith}
 use lib.Dec.{eqb, ltb}
 use borrow.Author.Tests.{eq-eqb, eqb-true}
 use lib.ListN.{getD, set, List·getD-eq-default}
+use Rattle.sizes.specs.declared.refusal.Refusal.the-variants as Because
 use Rattle.sizes.specs.Words.{has, place, Each, one-if, times}
 use Rattle.sizes.specs.Limits.{object-slots, toi-entries}
 use Rattle.sizes.specs.Allocator as Alloc
@@ -110,12 +111,12 @@ module _ (f : Fdt) (v : Valid f) where
 -- ---- add
 
 module _ (f : Fdt) (q : Request) (z : Sizes) (t : ℕ) where
-  pub named-unknown : has t (Alloc.loose (f .tois)) ≡ false → named-of f q z t ≡ refuses f AdmissionV.Unknown
+  pub named-unknown : has t (Alloc.loose (f .tois)) ≡ false → named-of f q z t ≡ refuses f Because.NotLoose
   unfolding named-of
   named-unknown h = rw h
 
   module _ (h : has t (Alloc.loose (f .tois)) ≡ true) where
-    pub named-none : place is-free (f .slots) ≡ none → named-of f q z t ≡ refuses f AdmissionV.Full
+    pub named-none : place is-free (f .slots) ≡ none → named-of f q z t ≡ refuses f Because.Full
     unfolding named-of
     named-none p = rw (h, p)
 
@@ -142,12 +143,12 @@ allocated-some flag a t e = go (tested (ltb (a .entered) toi-entries))
     go (fail q) = let n : Full ≡ Number t = rw q at e in let z : _≡_ {A = ℕ} 0 1 = cc in absurd (omega arith)
 
 module _ (f : Fdt) (q : Request) (z : Sizes) where
-  pub fresh-none : place is-free (f .slots) ≡ none → fresh-of f q z ≡ refuses f AdmissionV.Full
+  pub fresh-none : place is-free (f .slots) ≡ none → fresh-of f q z ≡ refuses f Because.Full
   unfolding fresh-of
   fresh-none p = rw p
 
   module _ (k : ℕ) (p : place is-free (f .slots) ≡ some k) where
-    pub fresh-full : Alloc.allocated-of false (f .tois) .answer ≡ Full → fresh-of f q z ≡ refuses f AdmissionV.Full
+    pub fresh-full : Alloc.allocated-of false (f .tois) .answer ≡ Full → fresh-of f q z ≡ refuses f Because.Full
     unfolding fresh-of
     fresh-full e = rw (p, allocated-full false (f .tois) e)
 
@@ -157,17 +158,17 @@ module _ (f : Fdt) (q : Request) (z : Sizes) where
     fresh-some t e = let r = allocated-some false (f .tois) t e in rw (p, r .0, r .1)
 
 module _ (f : Fdt) (q : Request) (named : Named) where
-  pub added-complete : f .complete ≡ true → added-of f q named ≡ refuses f AdmissionV.Complete
+  pub added-complete : f .complete ≡ true → added-of f q named ≡ refuses f Because.Complete
   unfolding added-of
   added-complete e = rw e
 
   module _ (o : f .complete ≡ false) where
-    pub added-sizes : bad-blocks (own-of (q .own) (f .settings .sizes)) (q .part .size) ≡ true → added-of f q named ≡ refuses f AdmissionV.Sizes
+    pub added-sizes : bad-blocks (own-of (q .own) (f .settings .sizes)) (q .part .size) ≡ true → added-of f q named ≡ refuses f Because.Sizes
     unfolding added-of
     added-sizes b = rw (b, o)
 
     module _ (b : bad-blocks (own-of (q .own) (f .settings .sizes)) (q .part .size) ≡ false) where
-      pub added-part : bad-part-of f (q .part) ≡ true → added-of f q named ≡ refuses f AdmissionV.Part
+      pub added-part : bad-part-of f (q .part) ≡ true → added-of f q named ≡ refuses f Because.Part
       unfolding added-of
       added-part p = rw (p, b, o)
 

@@ -161,7 +161,7 @@ module _ (f : Fdt) where
   added-sent v q named = go (added-of f q named) (added-view f v q named)
     where
       go : (r : Added) → ListAdds f q (own-of (q .own) (f .settings .sizes)) named r → SentSame f (r .fdt)
-      go r (refused a n e) = subst (λ (x : Added). SentSame f (x .fdt)) (sym e) (λ j. refl)
+      go r (refused a e) = subst (λ (x : Added). SentSame f (x .fdt)) (sym e) (λ j. refl)
       go r (admits k t h) = at-each (λ j. sends (slot-at (r .fdt .slots) j) ≡ sends (slot-at (f .slots) j)) k
           (ap sends (h .view .new) ∙ sym (ap sends (h .free .blank))) (λ j e. ap sends (h .view .same j e))
 

@@ -137,26 +137,26 @@ put-of f k toi q z = with-objects f (f .tois)
     (set (f .slots) k (new-slot q z toi))
     (set (f .queue) (f .queued) k) (f .queued + 1)
 
-abbrev pub refuses : Fdt → Admission → Added
-refuses f a = record { answer = a; fdt = f }
+abbrev pub refuses : Fdt → Refusal → Added
+refuses f why = record { answer = AdmissionV.Refused why; fdt = f }
 
 -- with the first free slot; refused (7) where there is none
 abbrev pub in-slot : Fdt → (ℕ → Added) → Added
-in-slot f go = maybe (refuses f AdmissionV.Full) go (place is-free (f .slots))
+in-slot f go = maybe (refuses f Because.Full) go (place is-free (f .slots))
 
 -- an add that names a reservation: it is to be loose (6), and there is to be a slot (7)
 unfoldable pub named-of : Fdt → Request → Sizes → ℕ → Added
 named-of f q z t =
     if has t (Alloc.loose (f .tois))
     then in-slot f (λ k. record { answer = AdmissionV.Toi t; fdt = put-of (with-tois f (Alloc.claimed-of t (f .tois) .allocator)) k t q z })
-    else refuses f AdmissionV.Unknown
+    else refuses f Because.NotLoose
 
 -- one that names none: there is to be a slot and a TOI entry (7)
 unfoldable pub fresh-of : Fdt → Request → Sizes → Added
 fresh-of f q z =
     in-slot f (λ k. if ltb (f .tois .entered) toi-entries
     then record { answer = AdmissionV.Toi (f .tois .next); fdt = put-of (with-tois f (Alloc.allocated-of false (f .tois) .allocator)) k (f .tois .next) q z }
-    else refuses f AdmissionV.Full)
+    else refuses f Because.Full)
 
 unfoldable pub numbered-of : Fdt → Request → Sizes → Named → Added
 numbered-of f q z (NamedV.Toi t) = named-of f q z t
@@ -166,9 +166,9 @@ numbered-of f q z NamedV.Anew = fresh-of f q z
 unfoldable pub added-of : Fdt → Request → Named → Added
 added-of f q named =
     let z = own-of (q .own) (f .settings .sizes) in
-    if f .complete then refuses f AdmissionV.Complete
-    else if bad-blocks z (q .part .size) then refuses f AdmissionV.Sizes
-    else if bad-part-of f (q .part) then refuses f AdmissionV.Part
+    if f .complete then refuses f Because.Complete
+    else if bad-blocks z (q .part .size) then refuses f Because.Sizes
+    else if bad-part-of f (q .part) then refuses f Because.Part
     else numbered-of f q z named
 
 -- ---- by number
@@ -269,32 +269,25 @@ with-announcer f a = record { settings = f .settings; complete = f .complete; to
 -- what a publish says
 abbrev pub publication-said : Publication → Alloc.Said
 publication-said PublicationV.Done = Alloc.Said.done
-publication-said PublicationV.Sizes = Alloc.Said.refused Because.Sizes
-publication-said PublicationV.Part = Alloc.Said.refused Because.Part
-publication-said PublicationV.Full = Alloc.Said.refused Because.Full
+publication-said (PublicationV.Refused why) = Alloc.Said.refused why
 
 -- why an add is refused; none where the object was admitted
 abbrev pub refusal : Admission → Option Refusal
 refusal (AdmissionV.Toi t) = none
-refusal AdmissionV.Complete = some Because.Complete
-refusal AdmissionV.Sizes = some Because.Sizes
-refusal AdmissionV.Part = some Because.Part
-refusal AdmissionV.Unknown = some Because.NotLoose
-refusal AdmissionV.Full = some Because.Full
+refusal (AdmissionV.Refused why) = some why
 
 -- publish, refusals 4, 5 and 7 in their order
 unfoldable pub publish-of : ℕ → Part → Fdt → Published
 publish-of now c f =
-    if bad-blocks (f .settings .sizes) (c .size) then record { answer = PublicationV.Sizes; fdt = f }
-    else if bad-fdt-of (f .settings .«fdt_store») c (f .announcer) || eqb (c .size) 0 then record { answer = PublicationV.Part; fdt = f }
-    else if leb waiting-fdts (f .announcer .waiting) then record { answer = PublicationV.Full; fdt = f }
+    if bad-blocks (f .settings .sizes) (c .size) then record { answer = PublicationV.Refused Because.Sizes; fdt = f }
+    else if bad-fdt-of (f .settings .«fdt_store») c (f .announcer) || eqb (c .size) 0 then record { answer = PublicationV.Refused Because.Part; fdt = f }
+    else if leb waiting-fdts (f .announcer .waiting) then record { answer = PublicationV.Refused Because.Full; fdt = f }
     else record { answer = PublicationV.Done; fdt = announced f (queued-of now c (f .announcer)) }
 
 -- what the test of a draft says
 abbrev pub draft-said : DraftTest → Option Refusal
 draft-said DraftTestV.Good = none
-draft-said DraftTestV.Sizes = some Because.Sizes
-draft-said DraftTestV.Part = some Because.Part
+draft-said (DraftTestV.Refused why) = some why
 
 -- a draft of length 0 is none, and is not looked at
 unfoldable pub real-draft : Draft → Draft

@@ -6,6 +6,7 @@ use mathlib.Core.List.{List, [], _∷_, _++_, map}
 use Prim.Native.Nat.{ℕ, _+_, _-_, _<_}
 use lib.Dec.{eqb, ltb}
 use lib.ListN.{length, getD}
+use Rattle.sizes.specs.declared.refusal.Refusal.{Refusal}
 use Rattle.sizes.specs.Words.{if_then_else_, maybe, given, collect, keep, cut, has, place, times, Hit}
 use Rattle.sizes.specs.Limits.{toi-entries}
 use Rattle.sizes.specs.Allocator as Alloc
@@ -93,7 +94,7 @@ pub record Admits (f : Fdt) (q : Request) (z : Sizes) (named : Named) (k t : ℕ
 
 -- refused, and nothing has changed; or admitted
 pub data ListAdds (f : Fdt) (q : Request) (z : Sizes) (named : Named) (r : Added) : Type 0 where
-  refused : (a : Admission) → ((t : ℕ) → a ≡ AdmissionV.Toi t → ⊥) → r ≡ refuses f a → ListAdds f q z named r
+  refused : (why : Refusal) → r ≡ refuses f why → ListAdds f q z named r
   admits : (k t : ℕ) → Admits f q z named k t r → ListAdds f q z named r
 
 -- refusal 6: the reservation that is named is not loose

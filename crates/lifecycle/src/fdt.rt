@@ -24,6 +24,7 @@ use crate::slots::any_shares;
 use crate::slots::free_slot;
 use crate::slots::listed_slot;
 use crate::slots::mark_published;
+use sizes::refusal::Refusal;
 use sizes::partition::Sizes;
 use sizes::partition::block_partitioning;
 use sizes::toiallocator::Given;
@@ -77,11 +78,7 @@ pub struct Request {
 // The number of an admitted object, or why it is refused.
 pub enum Admission {
     Toi(u64),
-    Complete,
-    Sizes,
-    Part,
-    Unknown,
-    Full,
+    Refused(Refusal),
 }
 
 pub struct Added {
@@ -120,9 +117,7 @@ pub struct Taken {
 // A publish that was done, or why it was not.
 pub enum Publication {
     Done,
-    Sizes,
-    Part,
-    Full,
+    Refused(Refusal),
 }
 
 pub struct Published {
@@ -133,8 +128,7 @@ pub struct Published {
 // Is a draft good, or why not.
 pub enum DraftTest {
     Good,
-    Sizes,
-    Part,
+    Refused(Refusal),
 }
 
 // What asking for the next FDT comes to: was the draft taken, and does the current FDT start now?
@@ -309,14 +303,14 @@ impl Fdt {
     {
         if !self.tois.is_loose(toi) {
             return Added {
-                answer: Admission::Unknown,
+                answer: Admission::Refused(Refusal::NotLoose),
                 fdt: self,
             };
         }
         let slots = self.slots;
         let Place::At(k) = free_slot(slots) else {
             return Added {
-                answer: Admission::Full,
+                answer: Admission::Refused(Refusal::Full),
                 fdt: self,
             };
         };
@@ -337,7 +331,7 @@ impl Fdt {
         let slots = self.slots;
         let Place::At(k) = free_slot(slots) else {
             return Added {
-                answer: Admission::Full,
+                answer: Admission::Refused(Refusal::Full),
                 fdt: self,
             };
         };
@@ -345,7 +339,7 @@ impl Fdt {
         let answer = r.answer;
         let Given::Number(toi) = answer else {
             return Added {
-                answer: Admission::Full,
+                answer: Admission::Refused(Refusal::Full),
                 fdt: self,
             };
         };
@@ -365,7 +359,7 @@ impl Fdt {
     {
         if self.complete {
             return Added {
-                answer: Admission::Complete,
+                answer: Admission::Refused(Refusal::Complete),
                 fdt: self,
             };
         }
@@ -373,13 +367,13 @@ impl Fdt {
         let z = own_sizes(own, self.settings.sizes);
         if are_bad_blocks(z, q.part.size) {
             return Added {
-                answer: Admission::Sizes,
+                answer: Admission::Refused(Refusal::Sizes),
                 fdt: self,
             };
         }
         if self.is_bad_part(q.part) {
             return Added {
-                answer: Admission::Part,
+                answer: Admission::Refused(Refusal::Part),
                 fdt: self,
             };
         }
@@ -638,25 +632,25 @@ impl Fdt {
     {
         if are_bad_blocks(self.settings.sizes, c.size) {
             return Published {
-                answer: Publication::Sizes,
+                answer: Publication::Refused(Refusal::Sizes),
                 fdt: self,
             };
         }
         if self.announcer.bad_fdt_part(self.settings.fdt_store, c) {
             return Published {
-                answer: Publication::Part,
+                answer: Publication::Refused(Refusal::Part),
                 fdt: self,
             };
         }
         if c.size == 0 {
             return Published {
-                answer: Publication::Part,
+                answer: Publication::Refused(Refusal::Part),
                 fdt: self,
             };
         }
         if 4 <= self.announcer.waiting {
             return Published {
-                answer: Publication::Full,
+                answer: Publication::Refused(Refusal::Full),
                 fdt: self,
             };
         }
@@ -677,10 +671,10 @@ impl Fdt {
             return DraftTest::Good;
         };
         if are_bad_blocks(self.settings.sizes, c.size) {
-            return DraftTest::Sizes;
+            return DraftTest::Refused(Refusal::Sizes);
         }
         if self.announcer.bad_fdt_part(self.settings.fdt_store, c) {
-            return DraftTest::Part;
+            return DraftTest::Refused(Refusal::Part);
         }
         DraftTest::Good
     }

@@ -91,7 +91,7 @@ added-beside f q named =
 
 -- a slot that was free was not in transfer, so what is in transfer stays as it was
 pub added-kept : (f : Fdt) (q : Request) (z : Sizes) (named : Named) (r : Added) → ListAdds f q z named r → SentKept f (r .fdt)
-added-kept f q z named r (refused a n e) = subst (λ (x : Added). SentKept f (x .fdt)) (sym e) (λ j s. refl)
+added-kept f q z named r (refused a e) = subst (λ (x : Added). SentKept f (x .fdt)) (sym e) (λ j s. refl)
 added-kept f q z named r (admits k t h) = at-each (λ j. sends (slot-at (f .slots) j) ≡ true → slot-at (r .fdt .slots) j ≡ slot-at (f .slots) j) k
     (λ s. absurd (true≢false (sym s ∙ ap sends (h .free .blank))))
     (λ j e s. h .view .same j e)
@@ -171,15 +171,6 @@ module _ (u : Setup) (o : Object) (s : Sender) (agrees : Agrees u s) (v : Valid 
 
 -- ---- the call
 
--- a refusal says its number
-refused-said : (a : Admission) → ((t : ℕ) → a ≡ AdmissionV.Toi t → ⊥) → (d : Def.Desk) (x : Def.Result) → Def.unless (refusal a) d x ≡ (add-answer (admission-said a), d)
-refused-said (AdmissionV.Toi t) n d x = absurd (n t refl)
-refused-said AdmissionV.Complete n d x = refl
-refused-said AdmissionV.Sizes n d x = refl
-refused-said AdmissionV.Part n d x = refl
-refused-said AdmissionV.Unknown n d x = refl
-refused-said AdmissionV.Full n d x = refl
-
 module _ (o : Object) (named : Named) (s : Sender) (v : Valid s) where
   abbrev call : Def.Call
   call = Def.Call.add (named-said named) (object-said o)
@@ -197,7 +188,7 @@ module _ (o : Object) (named : Named) (s : Sender) (v : Valid s) where
   -- what the list makes of it is what the definition says
   list-means : (u : Setup) → Agrees u s → (r : Added) → ListAdds (s .fdt) (request-of o) (own-of (o .own) (s .fdt .settings .sizes)) named r → Beside (s .fdt) (r .fdt)
       → comes u (refusal (r .answer)) ≡ (add-answer (admission-said (r .answer)), desk-of (with-list s (r .fdt)))
-  list-means u a r (refused x n e) b = subst (λ (r : Added). comes u (refusal (r .answer)) ≡ (add-answer (admission-said (r .answer)), desk-of (with-list s (r .fdt)))) (sym e) (refused-said x n (desk-of s) _)
+  list-means u a r (refused x e) b = subst (λ (r : Added). comes u (refusal (r .answer)) ≡ (add-answer (admission-said (r .answer)), desk-of (with-list s (r .fdt)))) (sym e) refl
   list-means u a r (admits k t h) b =
       ap (λ x. comes u (refusal x)) (h .answer) ∙ desk-added u o s a v named k t r b h ∙ sym (ap (λ x. (add-answer (admission-said x), desk-of (with-list s (r .fdt)))) (h .answer))
 

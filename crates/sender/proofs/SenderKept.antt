@@ -153,8 +153,7 @@ pub fdt-refused : (now : ℕ) (draft : Draft) (s : Sender) (t : DraftTest) → d
     → fdt-running-of now draft s ≡ record { taken = false; answer = draft-answer t; sender = s }
 unfolding fdt-running-of
 fdt-refused now draft s DraftTestV.Good e g = absurd (true≢false (sym g))
-fdt-refused now draft s DraftTestV.Sizes e g = ap (fdt-running-by now (real-draft draft) s) (sym e)
-fdt-refused now draft s DraftTestV.Part e g = ap (fdt-running-by now (real-draft draft) s) (sym e)
+fdt-refused now draft s (DraftTestV.Refused why) e g = ap (fdt-running-by now (real-draft draft) s) (sym e)
 
 -- what the sender makes of a run
 abbrev pub fdt-ran-sender : Sender → FdtRan → Running

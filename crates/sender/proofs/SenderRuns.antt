@@ -149,7 +149,7 @@ module _ (s : Sender) where
 
   refused-added : (o : Object) (named : Named) (r : Added) → ListAdds (s .fdt) (request-of o) (own-of (request-of o .own) (s .fdt .settings .sizes)) named r
       → refuses (add-answer (admission-said (r .answer))) → with-list s (r .fdt) ≡ s
-  refused-added o named r (ListAdds.refused a n h) e = ap (λ (x : Added). with-list s (x .fdt)) h
+  refused-added o named r (ListAdds.refused a h) e = ap (λ (x : Added). with-list s (x .fdt)) h
   refused-added o named r (ListAdds.admits k t h) e = absurd (false≢true (sym (ap (λ x. given (refusal-in (add-answer (admission-said x)))) (h .answer)) ∙ e))
 
   refused-add : Valid s → (o : Object) (named : Named) → refuses (add-answer (adding-of o named s .answer)) → adding-of o named s .sender ≡ s

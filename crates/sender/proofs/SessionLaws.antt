@@ -193,7 +193,7 @@ module _ (f : Fdt) (h : Holds f) where
       go : (r : Added) → ListValid (r .fdt)
           → refusal (r .answer) ≡ first-of ((Because.Complete, f .complete) ∷ (Because.Sizes, bad-blocks z (q .part .size)) ∷ (Because.Part, bad-part-of f (q .part)) ∷ (Because.NotLoose, unknown named f) ∷ (Because.Full, full named f) ∷ [])
           → ListAdds f q z named r → Holds (r .fdt)
-      go r v a (refused b n e) = subst (λ (x : Added). Holds (x .fdt)) (sym e) h
+      go r v a (refused b e) = subst (λ (x : Added). Holds (x .fdt)) (sym e) h
       go r v a (admits k t w) =
           let c = first-none Because.Complete (f .complete) (sym (ap refusal (w .answer)) ∙ a) in
           let s = first-none Because.Sizes (bad-blocks z (q .part .size)) (c .1) in

@@ -196,11 +196,7 @@ request-of o = record { priority = o .priority; part = o .part; own = o .own; ru
 
 abbrev pub admission-said : Admission → AddAnswer
 admission-said (AdmissionV.Toi t) = AddV.Toi t
-admission-said AdmissionV.Complete = AddV.Refused Because.Complete
-admission-said AdmissionV.Sizes = AddV.Refused Because.Sizes
-admission-said AdmissionV.Part = AddV.Refused Because.Part
-admission-said AdmissionV.Unknown = AddV.Refused Because.NotLoose
-admission-said AdmissionV.Full = AddV.Refused Because.Full
+admission-said (AdmissionV.Refused why) = AddV.Refused why
 
 unfoldable pub adding-of : Object → Named → Sender → Adding
 adding-of o named s =
@@ -236,8 +232,7 @@ running-of i now s =
 -- why a draft is refused
 abbrev pub draft-answer : DraftTest → RunAnswer
 draft-answer DraftTestV.Good = RunV.Nothing
-draft-answer DraftTestV.Sizes = RunV.Refused Because.Sizes
-draft-answer DraftTestV.Part = RunV.Refused Because.Part
+draft-answer (DraftTestV.Refused why) = RunV.Refused why
 
 -- a run of the FDT session with a draft that was looked at
 abbrev pub fdt-running-by : ℕ → Draft → Sender → Option Refusal → Running

@@ -148,11 +148,7 @@ fn add_answer(a: Admission) -> AddAnswer
 {
     match a {
         Admission::Toi(t) => AddAnswer::Toi(t),
-        Admission::Complete => AddAnswer::Refused(Refusal::Complete),
-        Admission::Sizes => AddAnswer::Refused(Refusal::Sizes),
-        Admission::Part => AddAnswer::Refused(Refusal::Part),
-        Admission::Unknown => AddAnswer::Refused(Refusal::NotLoose),
-        Admission::Full => AddAnswer::Refused(Refusal::Full),
+        Admission::Refused(why) => AddAnswer::Refused(why),
     }
 }
 
@@ -162,8 +158,7 @@ fn is_bad(t: DraftTest) -> bool
 {
     match t {
         DraftTest::Good => false,
-        DraftTest::Sizes => true,
-        DraftTest::Part => true,
+        DraftTest::Refused(_) => true,
     }
 }
 
@@ -173,8 +168,7 @@ fn draft_answer(t: DraftTest) -> RunAnswer
 {
     match t {
         DraftTest::Good => RunAnswer::Nothing,
-        DraftTest::Sizes => RunAnswer::Refused(Refusal::Sizes),
-        DraftTest::Part => RunAnswer::Refused(Refusal::Part),
+        DraftTest::Refused(why) => RunAnswer::Refused(why),
     }
 }
 

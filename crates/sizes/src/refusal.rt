@@ -16,7 +16,7 @@ pub enum Refusal {
 }
 
 // Its number in the table.
-pub fn number_of(r: Refusal) -> u8
+pub fn number_of(r: Refusal) -> u32
     ensures { λ n. ⌜ n ≡ refusal-number r ⌝ }
 {
     match r {

@@ -1,58 +1,20 @@
-use Rattle.sender.specs.SenderCalls.{admission-said}
 use mathlib.Core.Path.{sym, ap}
 use borrow.Author.Needs.{needs}
+use Rattle.sender.specs.SenderCalls.{admission-said}
 use Rattle.sender.proofs.sender.add_answer.Statement.{statement}
 use Rattle.sender.proofs.sender.add_answer.Tie as tie
 
 enum-known-a : tie.Need-enum-known-a
 enum-known-a c = search needs
 
-enum-told : tie.Need-enum-told
-enum-told c = search needs
-
-enum-told-2 : tie.Need-enum-told-2
-enum-told-2 c = search needs
-
-enum-told-3 : tie.Need-enum-told-3
-enum-told-3 c = search needs
-
-enum-told-4 : tie.Need-enum-told-4
-enum-told-4 c = search needs
-
-enum-told-5 : tie.Need-enum-told-5
-enum-told-5 c = search needs
+enum-known-a-2 : tie.Need-enum-known-a-2
+enum-known-a-2 c = search needs
 
 returns : tie.Need-returns
 returns c = ap admission-said (sym (c .before .a .given .1))
 
 returns-2 : tie.Need-returns-2
-returns-2 c = ap admission-said (sym (c .enum-told .given .1))
-
-returns-3 : tie.Need-returns-3
-returns-3 c = ap admission-said (sym (c .enum-told2 .given .1))
-
-returns-4 : tie.Need-returns-4
-returns-4 c = ap admission-said (sym (c .enum-told3 .given .1))
-
-returns-5 : tie.Need-returns-5
-returns-5 c = ap admission-said (sym (c .enum-told4 .given .1))
-
-returns-6 : tie.Need-returns-6
-returns-6 c = ap admission-said (sym (c .enum-told5 .given .1))
+returns-2 c = ap admission-said (sym (c .before .a2 .given .1))
 
 pub add-answer-spec : {M : Type 1} → statement M
-add-answer-spec =
-    tie.close
-    (tie.spec
-    enum-known-a
-    enum-told
-    enum-told-2
-    enum-told-3
-    enum-told-4
-    enum-told-5
-    returns
-    returns-2
-    returns-3
-    returns-4
-    returns-5
-    returns-6)
+add-answer-spec = tie.close (tie.spec enum-known-a enum-known-a-2 returns returns-2)
