@@ -20,9 +20,7 @@ pub fn record_of(answer: RunAnswer) -> PacketRecord
     match answer {
         RunAnswer::Packet(p) => PacketRecord::Fields(fields_of(p)),
         RunAnswer::Nothing => PacketRecord::NoPacket,
-        RunAnswer::Sizes => PacketRecord::NoPacket,
-        RunAnswer::Part => PacketRecord::NoPacket,
-        RunAnswer::NoSession => PacketRecord::NoPacket,
+        RunAnswer::Refused(_) => PacketRecord::NoPacket,
     }
 }
 

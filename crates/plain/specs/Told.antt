@@ -2,6 +2,8 @@
 use mathlib.Core.Bool.{Bool, true, false}
 use Prim.Native.Nat.{ℕ}
 use Rattle.sizes.specs.Words.{if_then_else_}
+use Rattle.sizes.specs.Refusals.{refusal-number}
+use Rattle.sizes.specs.declared.refusal.Refusal.the-variants as Because
 use Rattle.sizes.specs.Partition.{sbn, esi}
 use Rattle.sizes.specs.declared.toiallocator.Given.{Given}
 use Rattle.sizes.specs.declared.toiallocator.Given.the-variants.{Number, Full}
@@ -27,33 +29,26 @@ unnumbered n = record { refused = n; toi = 0 }
 
 abbrev pub given-told : Given → Numbered
 given-told (Number n) = numbered n
-given-told Full = unnumbered 7
+given-told Full = unnumbered (refusal-number Because.Full)
 
 abbrev pub known-told : Known → ℕ
 known-told Done = 0
-known-told Unknown = 6
+known-told Unknown = refusal-number Because.NotLoose
 
 abbrev pub add-told : AddAnswer → Numbered
 add-told (AddV.Toi t) = numbered t
-add-told AddV.NoSession = unnumbered 2
-add-told AddV.Complete = unnumbered 3
-add-told AddV.Sizes = unnumbered 4
-add-told AddV.Part = unnumbered 5
-add-told AddV.Unknown = unnumbered 6
-add-told AddV.Full = unnumbered 7
+add-told (AddV.Refused why) = unnumbered (refusal-number why)
 
 abbrev pub publication-told : Publication → ℕ
 publication-told PublicationV.Done = 0
-publication-told PublicationV.Sizes = 4
-publication-told PublicationV.Part = 5
-publication-told PublicationV.Full = 7
+publication-told (PublicationV.Refused why) = refusal-number why
 
 abbrev pub transfers-told : Transfers → Counted
 transfers-told (TransfersV.Total n) = record { listed = true; total = n }
 transfers-told TransfersV.NotListed = record { listed = false; total = 0 }
 
 unfoldable pub open-told : Bool → ℕ
-open-told ok = if ok then 0 else 1
+open-told ok = if ok then 0 else refusal-number Because.SetUp
 
 -- a run without a packet: zeros stand for it
 abbrev pub not-sent : ℕ → Bool → Sent
@@ -72,6 +67,4 @@ not-sent n taken = record {
 abbrev pub run-told : Bool → RunAnswer → Sent
 run-told taken (RunV.Packet p) = record { refused = 0; taken = taken; sent = true; packet = p }
 run-told taken RunV.Nothing = not-sent 0 taken
-run-told taken RunV.Sizes = not-sent 4 taken
-run-told taken RunV.Part = not-sent 5 taken
-run-told taken RunV.NoSession = not-sent 8 taken
+run-told taken (RunV.Refused why) = not-sent (refusal-number why) taken

@@ -10,6 +10,8 @@ use sender::sender::Packet;
 use sender::sender::RunAnswer;
 use sizes::numbers::Esi;
 use sizes::numbers::Sbn;
+use sizes::refusal::number_of;
+use sizes::refusal::Refusal;
 use sizes::toiallocator::Given;
 use sizes::toiallocator::Known;
 
@@ -41,7 +43,10 @@ pub fn told_given(a: Given) -> Numbered
 {
     match a {
         Given::Number(toi) => Numbered { refused: 0, toi },
-        Given::Full => Numbered { refused: 7, toi: 0 },
+        Given::Full => Numbered {
+            refused: number_of(Refusal::Full),
+            toi: 0,
+        },
     }
 }
 
@@ -50,7 +55,7 @@ pub fn told_known(a: Known) -> u32
 {
     match a {
         Known::Done => 0,
-        Known::Unknown => 6,
+        Known::Unknown => number_of(Refusal::NotLoose),
     }
 }
 
@@ -59,12 +64,10 @@ pub fn told_add(a: AddAnswer) -> Numbered
 {
     match a {
         AddAnswer::Toi(toi) => Numbered { refused: 0, toi },
-        AddAnswer::NoSession => Numbered { refused: 2, toi: 0 },
-        AddAnswer::Complete => Numbered { refused: 3, toi: 0 },
-        AddAnswer::Sizes => Numbered { refused: 4, toi: 0 },
-        AddAnswer::Part => Numbered { refused: 5, toi: 0 },
-        AddAnswer::Unknown => Numbered { refused: 6, toi: 0 },
-        AddAnswer::Full => Numbered { refused: 7, toi: 0 },
+        AddAnswer::Refused(why) => Numbered {
+            refused: number_of(why),
+            toi: 0,
+        },
     }
 }
 
@@ -73,9 +76,7 @@ pub fn told_publication(a: Publication) -> u32
 {
     match a {
         Publication::Done => 0,
-        Publication::Sizes => 4,
-        Publication::Part => 5,
-        Publication::Full => 7,
+        Publication::Refused(why) => number_of(why),
     }
 }
 
@@ -97,7 +98,11 @@ pub fn told_transfers(a: Transfers) -> Counted
 pub fn told_open(ok: bool) -> u32
     ensures { λ r. ⌜ r ≡ open-told ok ⌝ }
 {
-    if ok { 0 } else { 1 }
+    if ok {
+        0
+    } else {
+        number_of(Refusal::SetUp)
+    }
 }
 
 // A run without a packet.
@@ -135,8 +140,6 @@ pub fn told_run(taken: bool, a: RunAnswer) -> Sent
             packet,
         },
         RunAnswer::Nothing => not_sent(0, taken),
-        RunAnswer::Sizes => not_sent(4, taken),
-        RunAnswer::Part => not_sent(5, taken),
-        RunAnswer::NoSession => not_sent(8, taken),
+        RunAnswer::Refused(why) => not_sent(number_of(why), taken),
     }
 }

@@ -17,12 +17,6 @@ enum-told c = search needs
 enum-told-2 : tie.Need-enum-told-2
 enum-told-2 c = search needs
 
-enum-told-3 : tie.Need-enum-told-3
-enum-told-3 c = search needs
-
-enum-told-4 : tie.Need-enum-told-4
-enum-told-4 c = search needs
-
 returns : tie.Need-returns
 returns c = rw (c .before .before .answer .given .1) (ap some (c .fields-of .ensures))
 
@@ -32,12 +26,6 @@ returns-2 c = search needs
 returns-3 : tie.Need-returns-3
 returns-3 c = search needs
 
-returns-4 : tie.Need-returns-4
-returns-4 c = search needs
-
-returns-5 : tie.Need-returns-5
-returns-5 c = search needs
-
 pub record-of-spec : {M : Type 1} → statement M
 record-of-spec =
     tie.close
@@ -46,10 +34,6 @@ record-of-spec =
     fields-of-requires
     enum-told
     enum-told-2
-    enum-told-3
-    enum-told-4
     returns
     returns-2
-    returns-3
-    returns-4
-    returns-5)
+    returns-3)

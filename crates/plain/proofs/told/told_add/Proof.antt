@@ -1,66 +1,24 @@
-use mathlib.Core.Path.{sym, ap}
-use Rattle.plain.specs.Told.{add-told}
+use mathlib.Core.Path.{sym, ap, _∙_}
 use borrow.Author.Needs.{needs}
+use Rattle.plain.specs.Told.{unnumbered, add-told}
 use Rattle.plain.proofs.told.told_add.Statement.{statement}
 use Rattle.plain.proofs.told.told_add.Tie as tie
 
 enum-known-a : tie.Need-enum-known-a
 enum-known-a c = search needs
 
-enum-told : tie.Need-enum-told
-enum-told c = search needs
+enum-known-a-2 : tie.Need-enum-known-a-2
+enum-known-a-2 c = search needs
 
-enum-told-2 : tie.Need-enum-told-2
-enum-told-2 c = search needs
-
-enum-told-3 : tie.Need-enum-told-3
-enum-told-3 c = search needs
-
-enum-told-4 : tie.Need-enum-told-4
-enum-told-4 c = search needs
-
-enum-told-5 : tie.Need-enum-told-5
-enum-told-5 c = search needs
-
-enum-told-6 : tie.Need-enum-told-6
-enum-told-6 c = search needs
+number-of-requires : tie.Need-number-of-requires
+number-of-requires c κs = search needs
 
 returns : tie.Need-returns
 returns c = ap add-told (sym (c .before .a .given .1))
 
 returns-2 : tie.Need-returns-2
-returns-2 c = ap add-told (sym (c .enum-told .given .1))
-
-returns-3 : tie.Need-returns-3
-returns-3 c = ap add-told (sym (c .enum-told2 .given .1))
-
-returns-4 : tie.Need-returns-4
-returns-4 c = ap add-told (sym (c .enum-told3 .given .1))
-
-returns-5 : tie.Need-returns-5
-returns-5 c = ap add-told (sym (c .enum-told4 .given .1))
-
-returns-6 : tie.Need-returns-6
-returns-6 c = ap add-told (sym (c .enum-told5 .given .1))
-
-returns-7 : tie.Need-returns-7
-returns-7 c = ap add-told (sym (c .enum-told6 .given .1))
+returns-2 c = ap unnumbered (c .number-of .ensures) ∙ ap add-told (sym (c .before .before .a2 .given .1))
 
 pub told-add-spec : {M : Type 1} → statement M
 told-add-spec =
-    tie.close
-    (tie.spec
-    enum-known-a
-    enum-told
-    enum-told-2
-    enum-told-3
-    enum-told-4
-    enum-told-5
-    enum-told-6
-    returns
-    returns-2
-    returns-3
-    returns-4
-    returns-5
-    returns-6
-    returns-7)
+    tie.close (tie.spec enum-known-a enum-known-a-2 number-of-requires returns returns-2)

@@ -1,6 +1,6 @@
-use mathlib.Core.Path.{sym, ap}
-use Rattle.plain.specs.Told.{given-told}
+use mathlib.Core.Path.{sym, ap, _∙_}
 use borrow.Author.Needs.{needs}
+use Rattle.plain.specs.Told.{unnumbered, given-told}
 use Rattle.plain.proofs.told.told_given.Statement.{statement}
 use Rattle.plain.proofs.told.told_given.Tie as tie
 
@@ -10,11 +10,14 @@ enum-known-a c = search needs
 enum-told : tie.Need-enum-told
 enum-told c = search needs
 
+number-of-requires : tie.Need-number-of-requires
+number-of-requires c κs = search needs
+
 returns : tie.Need-returns
 returns c = ap given-told (sym (c .before .a .given .1))
 
 returns-2 : tie.Need-returns-2
-returns-2 c = ap given-told (sym (c .enum-told .given .1))
+returns-2 c = ap unnumbered (c .number-of .ensures) ∙ ap given-told (sym (c .before .enum-told .given .1))
 
 pub told-given-spec : {M : Type 1} → statement M
-told-given-spec = tie.close (tie.spec enum-known-a enum-told returns returns-2)
+told-given-spec = tie.close (tie.spec enum-known-a enum-told number-of-requires returns returns-2)
