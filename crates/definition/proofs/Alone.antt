@@ -19,9 +19,10 @@ use Rattle.definition.specs.Session.{Object, Hand, Session}
 use Rattle.definition.specs.Desk.{Desk, Request, Call, Answer, opening, in-hands, objects, is, reserved, toi-for, admitted, own-sizes, no-session, bad-object-part, not-loose, full, no-room, add-refusal, Result, unless, step}
 use Rattle.definition.specs.Apart.{mine, owns, about, adding, number-in, noted, key, call-by, answer-by, is-barred, turned-away}
 use Rattle.definition.proofs.Numbers.{Unique, unique-step, unique-opening, tois, admissible}
+use Rattle.definition.proofs.RefusalTables.{early-refusal, late-no, add-early, add-unreached}
 use Rattle.definition.proofs.View.{retag, retag-held, seen, see, seen-append}
 use Rattle.definition.proofs.Known.{Noted, Fits, Known, known-step, known-opening}
-use Rattle.definition.proofs.ApartLaws.{got, got-key, view, early-refusal, own-step, owned-noted, objects-noted, hidden, shown, Same-mine, same-mine, early-seen, late-no, add-early}
+use Rattle.definition.proofs.ApartLaws.{got, got-key, view, own-step, owned-noted, objects-noted, hidden, shown, Same-mine, same-mine, early-seen}
 use Rattle.sizes.proofs.Tests.{or-left, or-right, none≢some}
 use Rattle.sizes.proofs.Lists.{at-map}
 
@@ -170,24 +171,9 @@ module _ (s : Setup) (p : ℕ) (j : List ℕ) (d : Desk) (i : List ℕ) (e : Des
   early-there : (q : Request) → early-refusal s e q ≡ early-refusal s d q
   early-there q = sym (early-seen p i s e q) ∙ ap (λ v. early-refusal s v q) (sym (r .same)) ∙ early-seen p j s d q
 
--- rows 5, 6 and 7 are not reached
-unreached : (a b c d e f : Bool) → (first-of ((Because.NoPriority, a) ∷ (Because.Complete, b) ∷ (Because.Sizes, c) ∷ []) ≡ none → (d ≡ false) × (e ≡ false) × (f ≡ false))
-    → late-no (first-of ((Because.NoPriority, a) ∷ (Because.Complete, b) ∷ (Because.Sizes, c) ∷ (Because.Part, d) ∷ (Because.NotLoose, e) ∷ (Because.Full, f) ∷ [])) ≡ false
-unreached true b c d e f h = refl
-unreached false true c d e f h = refl
-unreached false false true d e f h = refl
-unreached false false false d e f h = let z = h refl in rw (z .0, z .1, z .2)
-
 late-unless : (x : Option Refusal) (d : Desk) (t : ℕ) (d′ : Desk) → is-barred (unless x d (Answer.number t, d′) .0) ≡ late-no x
 late-unless none d t d′ = refl
 late-unless (some n) d t d′ = refl
-
-unreached-add : (s : Setup) (e : Desk) (named : Option ℕ) (q : Request)
-    → (early-refusal s e q ≡ none → (bad-object-part s e (q .part) ≡ false) × (not-loose e named ≡ false) × (no-room e named ≡ false))
-    → late-no (add-refusal s e named q) ≡ false
-unfolding add-refusal early-refusal
-unreached-add s e named q h =
-    unreached (no-session e (q .priority)) (e .complete) (bad-blocks (own-sizes s q) (q .part .size)) (bad-object-part s e (q .part)) (not-loose e named) (no-room e named) h
 
 -- an add that does not meet 5, 6 or 7 does not meet them there
 pub add-there : (s : Setup) (p : ℕ) (j : List ℕ) (d : Desk) (i : List ℕ) (e : Desk) (named named′ : Option ℕ) (q : Request) → Rel s p j d i e
@@ -196,7 +182,7 @@ pub add-there : (s : Setup) (p : ℕ) (j : List ℕ) (d : Desk) (i : List ℕ) (
 unfolding step
 add-there s p j d i e named named′ q r k h =
     late-unless (add-refusal s e named′ q) e (toi-for e named′) (admitted s (toi-for e named′) q (if given named′ then e else reserved s e))
-    ∙ unreached-add s e named′ q rows
+    ∙ add-unreached s e named′ q (λ z. let r = rows z in (r .0, (r .1, (r .2, tt))))
   where
     on-time : late-no (add-refusal s d named q) ≡ false
     on-time = sym (late-unless (add-refusal s d named q) d (toi-for d named) (admitted s (toi-for d named) q (if given named then d else reserved s d))) ∙ h

@@ -20,6 +20,7 @@ use Rattle.definition.specs.Session.{Object, Hand, Session, Turn, file-r
 use Rattle.definition.specs.Desk.{Desk, Request, Call, Answer, opening, in-hands, objects, numbers, is, listed-in-hands, listed-as, moved, numbered, with-fdt, in-hand, marked, marked-hand, all-published, reserved, toi-for, made, admitted, own-sizes, no-session, bad-object-part, not-loose, no-room, reserve-refusal, release-refusal, add-refusal, publish-refusal, draft-refusal, draft-of, Result, unless, ran, step, unloosed, fdt-queued, fdt-ran, Touch, Question, waiting-after, hand-after, touched-waiting, touched-hand, touched, answer-to}
 use Rattle.definition.specs.Apart.{mine, owns, about, noted, key, call-by, packet-by, perhaps-by, answer-by, bars, is-barred, turned-away, calls, answers, smooth, Alike as AlikeRuns, PacketOf, NumberOf, OwnNumbers, about-question, question-by}
 use Rattle.definition.proofs.Numbers.{Unique, unique-step, unique-opening, tois, admissible}
+use Rattle.definition.proofs.RefusalTables.{early-refusal, late-no, add-early}
 use Rattle.definition.proofs.View.{retag, retag-held, seen, see, seen-append, seen-mine, seen-other, Alike, seen-find, seen-map, see-turn, Sends, file-run-seen}
 use Rattle.definition.proofs.Known.{Noted, HeldFits, Fits, PacketNoted, Known, file-run-known, file-run-other, known-step, known-opening}
 use Rattle.sizes.proofs.Tests.{Tested, pass, fail, tested, and-left, and-right, or-left, or-right}
@@ -64,10 +65,6 @@ view p j d = record {
   sessions = map (see p (key j)) (d .sessions);
   fdt = d .fdt;
 }
-
--- why an add is refused on a desk that has only the priority's calls
-unfoldable pub early-refusal : Setup → Desk → Request → Option Refusal
-early-refusal s d q = first-of ((Because.NoPriority, no-session d (q .priority)) ∷ (Because.Complete, d .complete) ∷ (Because.Sizes, bad-blocks (own-sizes s q) (q .part .size)) ∷ [])
 
 -- the desk with one more object, under the next key
 abbrev pub one-more : Setup → Request → Desk → Desk
@@ -467,25 +464,6 @@ any-see p r f (x ∷ l) = ap (λ b. eqb (x .priority) r || b) (any-see p r f l)
 pub early-seen : (p : ℕ) (j : List ℕ) (s : Setup) (d : Desk) (q : Request) → early-refusal s (view p j d) q ≡ early-refusal s d q
 unfolding early-refusal no-session
 early-seen p j s d q = ap (λ b. first-of ((Because.NoPriority, not b) ∷ (Because.Complete, d .complete) ∷ (Because.Sizes, bad-blocks (own-sizes s q) (q .part .size)) ∷ [])) (any-see p (q .priority) (key j) (d .sessions))
-
--- an add that does not meet 5, 6 or 7 is refused for 2, 3, 4 or not at all
-abbrev pub late-no : Option Refusal → Bool
-late-no none = false
-late-no (some why) = bars why
-
-six-early : (a b c d e f : Bool) → late-no (first-of ((Because.NoPriority, a) ∷ (Because.Complete, b) ∷ (Because.Sizes, c) ∷ (Because.Part, d) ∷ (Because.NotLoose, e) ∷ (Because.Full, f) ∷ [])) ≡ false
-    → first-of ((Because.NoPriority, a) ∷ (Because.Complete, b) ∷ (Because.Sizes, c) ∷ (Because.Part, d) ∷ (Because.NotLoose, e) ∷ (Because.Full, f) ∷ []) ≡ first-of ((Because.NoPriority, a) ∷ (Because.Complete, b) ∷ (Because.Sizes, c) ∷ [])
-six-early true b c d e f h = refl
-six-early false true c d e f h = refl
-six-early false false true d e f h = refl
-six-early false false false true e f h = absurd (true≢false h)
-six-early false false false false true f h = absurd (true≢false h)
-six-early false false false false false true h = absurd (true≢false h)
-six-early false false false false false false h = refl
-
-pub add-early : (s : Setup) (d : Desk) (named : Option ℕ) (q : Request) → late-no (add-refusal s d named q) ≡ false → add-refusal s d named q ≡ early-refusal s d q
-unfolding add-refusal early-refusal
-add-early s d named q h = six-early (no-session d (q .priority)) (d .complete) (bad-blocks (own-sizes s q) (q .part .size)) (bad-object-part s d (q .part)) (not-loose d named) (no-room d named) h
 
 -- what an add comes to if it is not refused
 abbrev pub add-result : Setup → Desk → Option ℕ → Request → Result

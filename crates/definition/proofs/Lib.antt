@@ -1,5 +1,6 @@
 -- Proofs of what specs/ promises of the desk. Refusals and rounds; object numbers; one priority apart from the others; examples.
 pub mod Refused
+pub mod RefusalTables
 pub mod Runs
 pub mod Continued
 pub mod Everywhere

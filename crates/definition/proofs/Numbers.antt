@@ -21,6 +21,7 @@ use Rattle.definition.specs.FdtSession.{fdt-run}
 use Rattle.definition.specs.Session.{Object, Session}
 use Rattle.definition.specs.Desk.{Desk, Request, Call, Answer, opening, objects, numbers, moved, numbered, with-fdt, all-published, reserved, unloosed, toi-for, own-sizes, made, admitted, no-session, bad-object-part, not-loose, full, no-room, reserve-refusal, release-refusal, add-refusal, publish-refusal, draft-refusal, draft-of, Result, ran, fdt-ran, step, touched}
 use Rattle.definition.specs.Apart.{adding, number-in}
+use Rattle.definition.proofs.RefusalTables.{add-fails}
 use Rattle.definition.proofs.Refused.{plain, either, kept, settled}
 use Rattle.definition.proofs.Weights.{total, total-append, total-keep, total-over, total-times, total-length, total-admitted, none-yet, lighter}
 pub use Rattle.definition.specs.TotalPromises.{Unique, Given, HeldFrom}
@@ -41,25 +42,12 @@ pub record Admissible (s : Setup) (d : Desk) (named : Option ℕ) (c : Part) : T
   pub is-loose : not-loose d named ≡ false
   pub has-room : no-room d named ≡ false
 
-six : (a b c d e f : Bool) → first-of ((Because.NoPriority, a) ∷ (Because.Complete, b) ∷ (Because.Sizes, c) ∷ (Because.Part, d) ∷ (Because.NotLoose, e) ∷ (Because.Full, f) ∷ []) ≡ none → (c ≡ false) × (d ≡ false) × (e ≡ false) × (f ≡ false)
-six a b c d e f h =
-    let r2 = first-none Because.NoPriority a ((Because.Complete, b) ∷ (Because.Sizes, c) ∷ (Because.Part, d) ∷ (Because.NotLoose, e) ∷ (Because.Full, f) ∷ []) h in
-    let r3 = first-none Because.Complete b ((Because.Sizes, c) ∷ (Because.Part, d) ∷ (Because.NotLoose, e) ∷ (Because.Full, f) ∷ []) (r2 .1) in
-    let r4 = first-none Because.Sizes c ((Because.Part, d) ∷ (Because.NotLoose, e) ∷ (Because.Full, f) ∷ []) (r3 .1) in
-    let r5 = first-none Because.Part d ((Because.NotLoose, e) ∷ (Because.Full, f) ∷ []) (r4 .1) in
-    let r6 = first-none Because.NotLoose e ((Because.Full, f) ∷ []) (r5 .1) in
-    let r7 = first-none Because.Full f [] (r6 .1) in (r4 .0, r5 .0, r6 .0, r7 .0)
-
 module _ (s : Setup) (d : Desk) (named : Option ℕ) (q : Request) (e : add-refusal s d named q ≡ none) where
-  told : (bad-blocks (own-sizes s q) (q .part .size) ≡ false) × (bad-object-part s d (q .part) ≡ false) × (not-loose d named ≡ false) × (no-room d named ≡ false)
-  unfolding add-refusal
-  told = six (no-session d (q .priority)) (d .complete) (bad-blocks (own-sizes s q) (q .part .size)) (bad-object-part s d (q .part)) (not-loose d named) (no-room d named) e
-
   pub admissible : Admissible s d named (q .part)
-  admissible = let r = told in record { part-fits = r .1; is-loose = r .2; has-room = r .3 }
+  admissible = let r = add-fails s d named q e .1 .1 .1 in record { part-fits = r .0; is-loose = r .1 .0; has-room = r .1 .1 .0 }
 
   pub blocks-fit : bad-blocks (own-sizes s q) (q .part .size) ≡ false
-  blocks-fit = told .0
+  blocks-fit = add-fails s d named q e .1 .1 .0
 
 -- the reservation that it names is there
 pub loose-true : (s : Setup) (d : Desk) (v : ℕ) (q : Request) → add-refusal s d (some v) q ≡ none → has v (d .loose) ≡ true

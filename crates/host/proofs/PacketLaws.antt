@@ -23,9 +23,7 @@ use Rattle.host.specs.declared.record.PayloadPlace.{PayloadPlace}
 pub packet-kept : PacketKept
 packet-kept taken (RunV.Packet p) = refl
 packet-kept taken RunV.Nothing = refl
-packet-kept taken RunV.Sizes = refl
-packet-kept taken RunV.Part = refl
-packet-kept taken RunV.NoSession = refl
+packet-kept taken (RunV.Refused why) = refl
 
 module _ (n f : ℕ) (s : Sent) (r : PayloadPlace) where
   -- the bytes are those at the place
