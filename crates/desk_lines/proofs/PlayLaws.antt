@@ -1,4 +1,5 @@
 -- Laws on what commands ask of a sender.
+use Rattle.sizes.specs.declared.refusal.Refusal.the-variants as Because
 use mathlib.Core.Path.{_≡_, refl, subst, sym, _∙_, ap}
 use mathlib.Core.Bool.{Bool, true, false, not, true≢false}
 use mathlib.Core.List.{List, [], _∷_}
@@ -37,7 +38,7 @@ calls-of {c} {k} {s} {r} e p =
     }
 
 pub calls-none : {c : Command} {s : Sender} {r : Desk} (o : Bool) (y : Reply) → asked c ≡ none → Valid s → r ≡ reply-with o s y →
-    (c ≡ CommandV.AddNowhere → r ≡ reply-with true s (ReplyV.Refused 2)) → Calls c s r
+    (c ≡ CommandV.AddNowhere → r ≡ reply-with true s (ReplyV.Refused Because.NoPriority)) → Calls c s r
 calls-none {c} {s} {r} o y e v h w = record { valid = rw h v; played = λ l f. clash (cc); nowhere = w }
 
 -- the places of the commands that ask for none

@@ -1,4 +1,5 @@
 -- What the commands ask of a sender, and what is promised of each: the definition's answer, and its desk.
+use Rattle.sizes.specs.declared.refusal.Refusal.the-variants as Because
 use mathlib.Core.Path.{_≡_}
 use mathlib.Core.Bool.{Bool, true, false}
 use mathlib.Core.Option.{Option, none, some}
@@ -36,16 +37,16 @@ abbrev pub asks-add : Object → Named → Def.Call
 asks-add o named = Def.Call.add (named-said named) (object-said o)
 
 abbrev pub asks-remove : ℕ → Def.Call
-asks-remove t = Def.Call.remove t
+asks-remove t = Def.Call.touch t Def.Touch.remove
 
 abbrev pub asks-trigger : ℕ → Time → Def.Call
-asks-trigger t start = Def.Call.trigger t (time-of start)
+asks-trigger t start = Def.Call.touch t (Def.Touch.trigger (time-of start))
 
 abbrev pub asks-listed : ℕ → Def.Call
-asks-listed t = Def.Call.listed t
+asks-listed t = Def.Call.ask (Def.Question.listed t)
 
 abbrev pub asks-transfers : ℕ → Def.Call
-asks-transfers t = Def.Call.transfers t
+asks-transfers t = Def.Call.ask (Def.Question.transfers t)
 
 abbrev pub asks-complete : Def.Call
 asks-complete = Def.Call.complete
@@ -57,7 +58,7 @@ abbrev pub asks-run-fdt : ℕ → Draft → Def.Call
 asks-run-fdt clock draft = Def.Call.run-fdt clock (draft-given draft)
 
 abbrev pub asks-run : ℕ → ℕ → Def.Call
-asks-run i clock = Def.Call.run-file clock i
+asks-run i clock = Def.Call.run-file i clock
 
 -- the desk stays open, and its reply and its sender are what the definition says of the call
 pub record Plays (c : Def.Call) (s : Sender) (r : Desk) : Type 0 where
@@ -97,18 +98,18 @@ pub record Calls (c : Command) (s : Sender) (r : Desk) : Type 0 where
   pub valid : Valid (r .sender)
   pub played : (k : Def.Call) → asked c ≡ some k → Plays k s r
   -- no session has a priority above 32 bits
-  pub nowhere : c ≡ CommandV.AddNowhere → r ≡ reply-with true s (ReplyV.Refused 2)
+  pub nowhere : c ≡ CommandV.AddNowhere → r ≡ reply-with true s (ReplyV.Refused Because.NoPriority)
 
 -- of a set-up: the definition's answer, and its desk
 pub record SetsUp (z : Setup) (r : Desk) : Type 0 where
   pub says : Says (set-up-said (r .«open»)) (r .reply)
-  pub means : Def.set-up (setup-said z) ≡ (if r .«open» then (Def.Answer.done, some (desk-of (r .sender))) else (Def.Answer.refused 1, none))
+  pub means : Def.set-up (setup-said z) ≡ (if r .«open» then (Def.Answer.done, some (desk-of (r .sender))) else (Def.Answer.refused Because.SetUp, none))
   pub valid : Valid (r .sender)
 
 -- no set-up is accepted
 pub record Shut (r : Desk) : Type 0 where
   pub closed : r .«open» ≡ false
-  pub says : Says (Def.Answer.refused 1) (r .reply)
+  pub says : Says (Def.Answer.refused Because.SetUp) (r .reply)
   pub valid : Valid (r .sender)
 
 -- of any command: a call of an open desk is played; where no set-up was accepted it is an error, and nothing changes
@@ -116,7 +117,7 @@ pub record Answers (c : Command) (d r : Desk) : Type 0 where
   pub valid : Valid (r .sender)
   pub played : (k : Def.Call) → asked c ≡ some k → d .«open» ≡ true → Plays k (d .sender) r
   pub shut : (k : Def.Call) → asked c ≡ some k → d .«open» ≡ false → r ≡ reply-with false (d .sender) ReplyV.Error
-  pub nowhere : c ≡ CommandV.AddNowhere → r ≡ (if d .«open» then reply-with true (d .sender) (ReplyV.Refused 2) else reply-with false (d .sender) ReplyV.Error)
+  pub nowhere : c ≡ CommandV.AddNowhere → r ≡ (if d .«open» then reply-with true (d .sender) (ReplyV.Refused Because.NoPriority) else reply-with false (d .sender) ReplyV.Error)
 
 -- the reply to a command that needs no sender: an empty line or a comment, a partition, a block's length, a transfer's lines
 abbrev pub alone : Command → Option Reply

@@ -4,6 +4,7 @@ use mathlib.Core.Bool.{Bool, true, false}
 use mathlib.Core.Option.{Option, none, some}
 use Prim.Native.Nat.{ℕ}
 use Rattle.sizes.specs.Words.{if_then_else_}
+use Rattle.sizes.specs.declared.refusal.Refusal.the-variants as Because
 use Rattle.lifecycle.specs.FdtCalls.{transfers-said}
 use Rattle.lifecycle.specs.declared.fdt.Transfers.{Transfers}
 use Rattle.definition.specs.Desk as Def
@@ -16,7 +17,7 @@ abbrev pub said : Reply → Option Def.Answer
 said ReplyV.Silent = none
 said ReplyV.Error = none
 said ReplyV.Done = some Def.Answer.done
-said (ReplyV.Refused n) = some (Def.Answer.refused n)
+said (ReplyV.Refused why) = some (Def.Answer.refused why)
 said (ReplyV.Toi n) = some (Def.Answer.number n)
 said ReplyV.Yes = some (Def.Answer.truth true)
 said ReplyV.No = some (Def.Answer.truth false)
@@ -34,7 +35,7 @@ abbrev pub Says : Def.Answer → Reply → Type 0
 Says a r = said r ≡ some a
 
 abbrev pub set-up-said : Bool → Def.Answer
-set-up-said ok = if ok then Def.Answer.done else Def.Answer.refused 1
+set-up-said ok = if ok then Def.Answer.done else Def.Answer.refused Because.SetUp
 
 abbrev pub truth-said : Bool → Def.Answer
 truth-said b = Def.Answer.truth b

@@ -11,6 +11,7 @@ use lifecycle::announce::Draft;
 use lifecycle::fdt::Named;
 use lifecycle::filedesc::Time;
 use lifecycle::parts::Part;
+use sizes::refusal::Refusal;
 use sender::sender::Object;
 use sender::sender::Sender;
 use sender::setup::FdtCarousel;
@@ -177,7 +178,7 @@ fn call(s: Sender, c: Command) -> Desk
         Command::Reserve => reserve(s),
         Command::Release(toi) => release(s, toi),
         Command::Add { object, named } => add(s, object, named),
-        Command::AddNowhere => replied(true, s, Reply::Refused(2)),
+        Command::AddNowhere => replied(true, s, Reply::Refused(Refusal::NoPriority)),
         Command::Remove(toi) => remove(s, toi),
         Command::Trigger { toi, start } => trigger(s, toi, start),
         Command::Publish { clock, part } => publish(s, clock, part),
@@ -234,7 +235,7 @@ pub fn shut() -> Desk
     let sender = r.sender;
     Desk {
         open: false,
-        reply: Reply::Refused(1),
+        reply: Reply::Refused(Refusal::SetUp),
         sender,
     }
 }

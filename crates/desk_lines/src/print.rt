@@ -1,4 +1,5 @@
 // The text of a reply.
+use sizes::refusal::number_of;
 use crate::reply::Reply;
 use crate::store::payload_sum;
 use libc::STDOUT_FILENO;
@@ -47,7 +48,7 @@ fn put_word(out: &mut [u8], reply: Reply) -> usize {
 // A reply of one number, or of one word.
 fn put_short(out: &mut [u8], reply: Reply) -> usize {
     match reply {
-        Reply::Refused(n) => put_named(out, b"refused ", n),
+        Reply::Refused(why) => put_named(out, b"refused ", number_of(why) as u64),
         Reply::Toi(n) => put_named(out, b"toi ", n),
         Reply::Number(n) => text::put_number(out, 0, n),
         _ => put_word(out, reply),

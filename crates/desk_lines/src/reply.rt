@@ -12,6 +12,7 @@ use sender::sender::Packet;
 use sender::sender::RunAnswer;
 use sizes::partition::BlockLength;
 use sizes::partition::Partition;
+use sizes::refusal::Refusal;
 use sizes::toiallocator::Given;
 use sizes::toiallocator::Known;
 
@@ -21,7 +22,7 @@ pub enum Reply {
     // to a line that cannot be read, and a call where no set-up was accepted
     Error,
     Done,
-    Refused(u64),
+    Refused(Refusal),
     Toi(u64),
     Yes,
     No,
@@ -41,7 +42,7 @@ pub enum Reply {
 pub fn set_up_reply(ok: bool) -> Reply
     ensures { λ r. ⌜ Says (set-up-said ok) r ⌝ }
 {
-    if ok { Reply::Done } else { Reply::Refused(1) }
+    if ok { Reply::Done } else { Reply::Refused(Refusal::SetUp) }
 }
 
 pub fn given_reply(a: Given) -> Reply
@@ -49,7 +50,7 @@ pub fn given_reply(a: Given) -> Reply
 {
     match a {
         Given::Number(n) => Reply::Toi(n),
-        Given::Full => Reply::Refused(7),
+        Given::Full => Reply::Refused(Refusal::Full),
     }
 }
 
@@ -58,7 +59,7 @@ pub fn known_reply(a: Known) -> Reply
 {
     match a {
         Known::Done => Reply::Done,
-        Known::Unknown => Reply::Refused(6),
+        Known::Unknown => Reply::Refused(Refusal::NotLoose),
     }
 }
 
@@ -67,9 +68,7 @@ pub fn publication_reply(a: Publication) -> Reply
 {
     match a {
         Publication::Done => Reply::Done,
-        Publication::Sizes => Reply::Refused(4),
-        Publication::Part => Reply::Refused(5),
-        Publication::Full => Reply::Refused(7),
+        Publication::Refused(why) => Reply::Refused(why),
     }
 }
 
@@ -78,12 +77,7 @@ pub fn add_reply(a: AddAnswer) -> Reply
 {
     match a {
         AddAnswer::Toi(n) => Reply::Toi(n),
-        AddAnswer::NoSession => Reply::Refused(2),
-        AddAnswer::Complete => Reply::Refused(3),
-        AddAnswer::Sizes => Reply::Refused(4),
-        AddAnswer::Part => Reply::Refused(5),
-        AddAnswer::Unknown => Reply::Refused(6),
-        AddAnswer::Full => Reply::Refused(7),
+        AddAnswer::Refused(why) => Reply::Refused(why),
     }
 }
 
@@ -108,9 +102,7 @@ pub fn run_reply(a: RunAnswer) -> Reply
     match a {
         RunAnswer::Packet(p) => Reply::Sent(p),
         RunAnswer::Nothing => Reply::Nothing,
-        RunAnswer::Sizes => Reply::Refused(4),
-        RunAnswer::Part => Reply::Refused(5),
-        RunAnswer::NoSession => Reply::Refused(8),
+        RunAnswer::Refused(why) => Reply::Refused(why),
     }
 }
 
@@ -120,9 +112,7 @@ pub fn fdt_reply(taken: bool, a: RunAnswer) -> Reply
     match a {
         RunAnswer::Packet(packet) => Reply::SentFdt { taken, packet },
         RunAnswer::Nothing => Reply::NoFdt(taken),
-        RunAnswer::Sizes => Reply::Refused(4),
-        RunAnswer::Part => Reply::Refused(5),
-        RunAnswer::NoSession => Reply::Refused(8),
+        RunAnswer::Refused(why) => Reply::Refused(why),
     }
 }
 
