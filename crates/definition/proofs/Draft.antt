@@ -19,7 +19,6 @@ use Rattle.definition.specs.FdtSession.{Fdt, FdtTurn, FdtHand, Packet, f
 use Rattle.definition.specs.Promises.{packet-id, DraftTold}
 use Rattle.definition.proofs.Rounds.{first-read}
 
-
 -- ---- asking for the next FDT
 
 -- what it says of the draft, from next id n

@@ -11,13 +11,13 @@ use lifecycle::announce::Draft;
 use lifecycle::fdt::Named;
 use lifecycle::filedesc::Time;
 use lifecycle::parts::Part;
-use sizes::refusal::Refusal;
 use sender::sender::Object;
 use sender::sender::Sender;
 use sender::setup::FdtCarousel;
 use sender::setup::Setup;
 use sizes::numbers::Sbn;
 use sizes::partition::Sizes;
+use sizes::refusal::Refusal;
 
 // The sender, whether a set-up was accepted for it, and the reply to the last command.
 pub struct Desk {

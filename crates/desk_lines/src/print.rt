@@ -1,11 +1,11 @@
 // The text of a reply.
-use sizes::refusal::number_of;
 use crate::reply::Reply;
 use crate::store::payload_sum;
 use libc::STDOUT_FILENO;
 use sender::blockencoder::Symbol;
 use sender::sender::Packet;
 use sizes::partition::Partition;
+use sizes::refusal::number_of;
 
 // Writes the answer to a line; nothing where it has none.
 pub fn write_reply<'a>(objects: &'a [u8], fdts: &'a [u8], reply: Reply) {

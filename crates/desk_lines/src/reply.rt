@@ -42,7 +42,11 @@ pub enum Reply {
 pub fn set_up_reply(ok: bool) -> Reply
     ensures { λ r. ⌜ Says (set-up-said ok) r ⌝ }
 {
-    if ok { Reply::Done } else { Reply::Refused(Refusal::SetUp) }
+    if ok {
+        Reply::Done
+    } else {
+        Reply::Refused(Refusal::SetUp)
+    }
 }
 
 pub fn given_reply(a: Given) -> Reply

@@ -10,8 +10,8 @@ use sender::sender::Packet;
 use sender::sender::RunAnswer;
 use sizes::numbers::Esi;
 use sizes::numbers::Sbn;
-use sizes::refusal::number_of;
 use sizes::refusal::Refusal;
+use sizes::refusal::number_of;
 use sizes::toiallocator::Given;
 use sizes::toiallocator::Known;
 
@@ -98,11 +98,7 @@ pub fn told_transfers(a: Transfers) -> Counted
 pub fn told_open(ok: bool) -> u32
     ensures { λ r. ⌜ r ≡ open-told ok ⌝ }
 {
-    if ok {
-        0
-    } else {
-        number_of(Refusal::SetUp)
-    }
+    if ok { 0 } else { number_of(Refusal::SetUp) }
 }
 
 // A run without a packet.

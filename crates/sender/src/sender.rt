@@ -15,7 +15,6 @@ use crate::sendersession::Served;
 use lifecycle::announce::Draft;
 use lifecycle::fdt::Admission;
 use lifecycle::fdt::DraftTest;
-use sizes::refusal::Refusal;
 use lifecycle::fdt::Fdt;
 use lifecycle::fdt::Named;
 use lifecycle::fdt::Own;
@@ -28,6 +27,7 @@ use lifecycle::filedesc::Rule;
 use lifecycle::filedesc::Target;
 use lifecycle::filedesc::Time;
 use lifecycle::parts::Part;
+use sizes::refusal::Refusal;
 use sizes::toiallocator::Given;
 use sizes::toiallocator::Known;
 
