@@ -1,4 +1,4 @@
--- Examples, computed from the definition: the bench sheet, four transfers and two runs. Proved in proofs/Sheet and proofs/Trial.
+-- Examples, computed from the definition: the bench sheet, four transfers and two runs. Proved in proofs/AllExamples.
 use mathlib.Core.Path.{_≡_}
 use mathlib.Core.Bool.{Bool, true, false}
 use mathlib.Core.Option.{Option, none, some}
@@ -193,7 +193,7 @@ first-run =
     ∷ []
 
 -- five objects, marked by one publish; the draft beside it is not taken. The second leaves the queue's middle; the first repeats after more than 1000, and once more by a trigger, from 1300 on.
--- The fourth is paced by 500; the first is removed while it is sent. A sixth, empty, is marked by a draft that is taken once the validity has run out; another is too long (4) before it is out of its store (5).
+-- The fourth is paced by 500; the first is removed while it is sent. A sixth, empty, is marked by a draft of two symbols that is taken once the validity has run out; another is too long (4) before it is out of its store (5).
 -- After completion nothing is added, numbers go on, and what is being sent is sent to its end
 unfoldable pub long-run : Script
 long-run =
@@ -227,8 +227,9 @@ long-run =
     ∷ (Call.add none (object 7 40 0 1), toi 4)
     ∷ (Call.add none (object 7 40 300_000 1), refusal 4)
     ∷ (Call.run-file 0 3001, nothing)
-    ∷ (Call.run-fdt 10_000_000_099 (some (bytes 10 2)), nothing)
-    ∷ (Call.run-fdt 10_000_000_100 (some (bytes 10 2)), draft 0 0 0 10 2)
+    ∷ (Call.run-fdt 10_000_000_099 (some (bytes 10 4)), nothing)
+    ∷ (Call.run-fdt 10_000_000_100 (some (bytes 10 4)), draft 0 0 0 10 2)
+    ∷ (Call.run-fdt 10_000_000_100 none, fdt 0 0 1 12 2)
     ∷ (Call.run-file 0 10_000_000_101, last-obj 4 0 0 40 0)
     ∷ (Call.complete, ok)
     ∷ (Call.add none (object 7 50 2 1), refusal 3)
