@@ -30,7 +30,7 @@ use Rattle.lifecycle.proofs.FdtFacts.{if-on, maybe-on}
 use Rattle.lifecycle.proofs.FdtAdds.{added-view}
 use Rattle.definition.specs.Desk as Def
 use Rattle.definition.specs.Apart as Apart
-use Rattle.definition.specs.Apart.{about, key, noted, call-by, answer-by, turned-away, refusal-in}
+use Rattle.definition.specs.Apart.{about, key, noted, call-by, answer-by, turned-away, refusal-in, NumberOf}
 use Rattle.definition.specs.TotalPromises as Total
 use Rattle.definition.proofs.Reachable as Reached
 use Rattle.definition.proofs.OnlyThese.{demand-3-sound}
@@ -38,7 +38,7 @@ use Rattle.sender.specs.SessionCalls.{idle-of, ran-of}
 use Rattle.sender.specs.FdtSessionCalls.{fdt-ran-of}
 use Rattle.sender.specs.SenderCalls.{desk-of, Agrees, Valid, Kept, working, with-list, has-priority, request-of, admission-said, alloc-answer, add-answer, file-answer, fdt-answer, answer-of, reserving-of, releasing-of, adding-of, publishing-of, running-of, fdt-running-by, fdt-running-of}
 use Rattle.sender.specs.SetupCalls.{setup-said, opening-of}
-use Rattle.sender.specs.SenderRuns.{Call, call-said, answered, played, RefusedKeeps, code-calls, code-answers, code-smooth, Promised}
+use Rattle.sender.specs.SenderRuns.{Call, call-said, answered, played, RefusedKeeps, code-calls, code-answers, code-smooth, CodeNumbers, Promised}
 use Rattle.sender.specs.declared.sendersession.Served.{Served}
 use Rattle.sender.specs.declared.sendersession.Served.the-variants as ServedV
 use Rattle.sender.specs.declared.sender.Sender.{Sender}
@@ -118,6 +118,13 @@ module _ (u : DefSetup) (p : ℕ) where
       let k = answered-kept s v c in
       ap (λ (x : Bool). not (turned-away p (call-said c) (answered s c .0)) && x) (smooth-view (answered s c .1) (k .valid) (k .agrees u w) l)
       ∙ ap (λ (x : Def.Result). not (turned-away p (call-said c) (x .0)) && Apart.smooth u p (x .1) (map call-said l)) (sym (k .means u w))
+
+  pub numbers-view : (j : List ℕ) (s : Sender) → Valid s → Agrees u s → (l : List Call) → Apart.OwnNumbers u p j (desk-of s) (map call-said l) → CodeNumbers p j s l
+  numbers-view j s v w [] h = tt
+  numbers-view j s v w (c ∷ l) h =
+      let k = answered-kept s v c in
+      let q = subst (λ (x : Def.Result). (about p (desk-of s) (call-said c) ≡ true → NumberOf (noted p (call-said c) (x .0) j) (x .0)) × Apart.OwnNumbers u p (noted p (call-said c) (x .0) j) (x .1) (map call-said l)) (k .means u w) h in
+      (q .0, numbers-view (noted p (call-said c) (answered s c .0) j) (answered s c .1) (k .valid) (k .agrees u w) l (q .1))
 
 -- ---- refused calls
 
@@ -230,4 +237,5 @@ promised z long ok =
           ∙ sym (opening-answers z o p m);
       only-these = λ p l a. opening-answers z o p l ∙ demand-3-sound u ok p .only-these-calls (map call-said l) (opening-smooth z o p l a) .same-answers;
       only-calls = λ p l a. demand-3-sound u ok p .only-these-calls (map call-said l) (opening-smooth z o p l a) .same-calls ∙ sym (opening-calls z o p l);
+      numbers-got = λ p l. numbers-view u p [] (opening-of z) (o .valid) (o .agrees) l (subst (λ d. Apart.OwnNumbers u p [] d (map call-said l)) (sym (o .means)) (demand-3-sound u ok p .numbers-got (map call-said l)));
     }
