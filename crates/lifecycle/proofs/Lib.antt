@@ -8,7 +8,11 @@ pub mod FdtLaws
 pub mod FdtValid
 pub mod FdtViews
 pub mod FdtByNumber
+pub mod FdtKeeps
+pub mod TakesKeep
 pub mod FdtSearches
 pub mod FdtAdds
+pub mod HeldKeep
+pub mod AnnounceKeep
 pub mod FdtSent
 pub mod PublishLaws

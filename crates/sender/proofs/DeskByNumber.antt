@@ -29,7 +29,7 @@ use Rattle.definition.proofs.Touches.{removed-waiting, prompted, prompted-waiti
 use Rattle.sender.specs.EncoderCalls.{encoder-of}
 use Rattle.sender.specs.SessionCalls.{object-of, hand-of, Holds}
 use Rattle.sender.specs.FdtSessionCalls.{FdtHolds}
-use Rattle.sender.specs.SessionMeans.{SameSide}
+use Rattle.sender.proofs.SessionFacts.{SameSide}
 use Rattle.sender.specs.SenderCalls.{desk-of, Valid, Kept, with-list, removing-of, prompting-of}
 use Rattle.sender.specs.declared.sendersession.SenderSession.{SenderSession}
 use Rattle.sender.specs.declared.sender.Sender.{Sender}

@@ -24,7 +24,8 @@ use Rattle.definition.specs.Session.{Object, Hand, Session}
 use Rattle.definition.specs.Desk as Def
 use Rattle.sender.specs.SessionCalls.{object-of, hand-of, session-of, idle-of, Holds}
 use Rattle.sender.specs.FdtSessionCalls.{FdtHolds}
-use Rattle.sender.specs.SessionMeans.{Stands, SameSide}
+use Rattle.sender.specs.SessionMeans.{Stands}
+use Rattle.sender.proofs.SessionFacts.{SameSide}
 use Rattle.sender.specs.SenderCalls.{working, desk-of, Agrees, slot-in, Valid, with-list}
 use Rattle.sender.specs.declared.sendersession.SenderSession.{SenderSession}
 use Rattle.sender.specs.declared.sender.Sender.{Sender}

@@ -37,7 +37,7 @@ use Rattle.definition.specs.Desk as Def
 use Rattle.sender.specs.EncoderCalls.{read-of}
 use Rattle.sender.specs.SessionCalls.{idle-of, Holds}
 use Rattle.sender.specs.FdtSessionCalls.{FdtHolds, FdtTries, left-of, fdt-begun-of, fdt-sent-by, fdt-sent-of, fdt-attempted-of, fdt-again-by, fdt-ran-of}
-use Rattle.sender.specs.SessionMeans.{Stands, FdtStands, SetFor, fdt-of, fdt-packet-said, SameObjects, marked-slots, FdtTurns}
+use Rattle.sender.specs.SessionMeans.{Stands, fdt-of}
 use Rattle.sender.specs.SenderCalls.{working, slot-in, desk-of, Agrees, Valid, Kept, fdt-answer, answer-of, fdt-running-by, fdt-running-of}
 use Rattle.sender.specs.declared.blockencoder.Emitted.{Emitted}
 use Rattle.sender.specs.declared.blockencoder.Emitted.the-variants as EmittedV
@@ -50,7 +50,8 @@ use Rattle.sender.specs.declared.sender.Sender.{Sender}
 use Rattle.sender.specs.declared.sender.RunAnswer.the-variants as RunV
 use Rattle.sender.proofs.SessionLaws.{holds-next-fdt, holds-fdt-done}
 use Rattle.sender.proofs.FdtSessionLaws.{draft-looked}
-use Rattle.sender.proofs.FdtSessionFacts.{stands-tries, next-starts, next-announcer}
+use Rattle.lifecycle.proofs.AnnounceKeep.{SameObjects, marked-slots, next-fdt-starts as next-starts, next-fdt-side as next-announcer}
+use Rattle.sender.proofs.FdtSessionFacts.{FdtStands, SetFor, stands-tries, fdt-packet-said, FdtTurns}
 use Rattle.sender.proofs.FdtSessionViews.{fdt-ran-means}
 use Rattle.sender.proofs.DeskChanges.{Stays, stands-list, agrees-list}
 use Rattle.sender.proofs.DeskPublish.{announced-desk, announced-stays}

@@ -32,7 +32,7 @@ use Rattle.definition.specs.Session as DefS
 use Rattle.definition.specs.Desk as Def
 use Rattle.sender.specs.SessionCalls.{session-of, Runs, idle-of, ran-by, served-of, forced-slot, attended-of, taken-by, taken-on-of, again-by, ran-of}
 use Rattle.sender.specs.FdtSessionCalls.{fdt-hand-of}
-use Rattle.sender.specs.SessionMeans.{Stands, has-slot, queue-of, packet-said, turn-of, SameSide, FileRuns}
+use Rattle.sender.specs.SessionMeans.{Stands, queue-of}
 use Rattle.sender.specs.SenderCalls.{working, desk-of, Agrees, slot-in, Valid, Kept, file-answer, answer-of, running-of}
 use Rattle.sender.specs.declared.sendersession.SenderSession.{SenderSession}
 use Rattle.sender.specs.declared.sendersession.Served.{Served}
@@ -40,7 +40,7 @@ use Rattle.sender.specs.declared.sendersession.Served.the-variants.{Idle
 use Rattle.sender.specs.declared.sendersession.Ran.{Ran}
 use Rattle.sender.specs.declared.sender.Sender.{Sender}
 use Rattle.sender.specs.declared.sender.Running.{Running}
-use Rattle.sender.proofs.SessionFacts.{stands-runs}
+use Rattle.sender.proofs.SessionFacts.{stands-runs, has-slot, packet-said, turn-of, SameSide, FileRuns}
 use Rattle.sender.proofs.SessionViews.{ran-means, ran-hand, ran-counts, ran-stands, ran-session}
 use Rattle.sender.proofs.FdtSessionLaws.{fdt-holds-over}
 use Rattle.sender.proofs.DeskChanges.{working-stands}
@@ -255,7 +255,7 @@ module _ (s : Sender) (v : Valid s) (i now : ℕ) (h : i < s .count) where
     valid-run : Valid s′
     valid-run = record {
       holds = runs .holds;
-      fdt-holds = fdt-holds-over (s .fdt) (r .fdt) (v .fdt-holds) (runs .holds .valid) (record { settings = same .settings; announcer = same .announcer });
+      fdt-holds = fdt-holds-over (s .fdt) (r .fdt) (v .fdt-holds) (runs .holds .valid) (same .settings) (same .announcer);
       object-store = rw (same .settings) (v .object-store);
       fdt-store = rw (same .settings) (v .fdt-store);
       narrow = v .narrow;

@@ -22,12 +22,12 @@ use Rattle.lifecycle.specs.declared.fdt.NextOf.{NextOf}
 use Rattle.lifecycle.specs.declared.fdt.Settings.{Settings}
 use Rattle.lifecycle.proofs.AnnounceLaws.{rule-said, state-done}
 use Rattle.lifecycle.proofs.AnnounceLaws as Laws
+use Rattle.lifecycle.proofs.AnnounceKeep.{SameObjects, objects-same, objects-on, marked-slots, next-fdt-taken, next-fdt-starts, next-fdt-side, next-fdt-objects, next-fdt-slots, next-fdt-untaken, next-fdt-current, fdt-done-side, fdt-done-objects, fdt-done-slots}
 use Rattle.definition.specs.Encoder as DefEncoder
 use Rattle.definition.specs.FdtSession as Def
 use Rattle.sender.specs.EncoderCalls.{encoder-of, symbol-said, emitted-said, new-of, read-of, Reads}
 use Rattle.sender.specs.FdtSessionCalls.{fdt-hand-of, FdtHolds, GoodDraft, FdtTries, left-of, fdt-idle-of, fdt-begun-of, fdt-sent-by, fdt-sent-of, fdt-attempted-of, fdt-again-by, fdt-ran-of}
-use Rattle.sender.specs.SessionMeans.{FdtInHand, FdtStands, SetFor, fdt-of, SameObjects, marked-slots, FdtTurns}
-use Rattle.sender.specs.declared.blockencoder.BlockEncoder.{BlockEncoder}
+use Rattle.sender.specs.SessionMeans.{FdtInHand, fdt-of}
 use Rattle.sender.specs.declared.blockencoder.Symbol.{Symbol}
 use Rattle.sender.specs.declared.blockencoder.Emitted.{Emitted}
 use Rattle.sender.specs.declared.blockencoder.Emitted.the-variants as EmittedV
@@ -36,9 +36,8 @@ use Rattle.sender.specs.declared.sendersession.Served.the-variants.{Idle
 use Rattle.sender.specs.declared.fdtsession.FdtSession.{FdtSession}
 use Rattle.sender.specs.declared.fdtsession.FdtRan.{FdtRan}
 use Rattle.sender.proofs.EncoderReads.{read-means}
-use Rattle.sender.proofs.EncoderPromises.{new-sound}
-use Rattle.sender.proofs.FdtSessionFacts.{fdt-idle-stands, objects-same, objects-on, next-taken, next-starts, next-announcer, next-objects, next-slots, next-untaken, done-objects, done-slots}
-use Rattle.sender.proofs.FdtSessionLaws.{fdt-holds-next, next-has-current, fdt-holds-done, good-left}
+use Rattle.sender.proofs.FdtSessionFacts.{FdtStands, fdt-idle-stands, SetFor, FdtTurns}
+use Rattle.sender.proofs.FdtSessionLaws.{fdt-holds-next, fdt-holds-done, fdt-begun-valid, good-left}
 
 -- where a run from list g is, once it has taken the draft or not
 record Reached (g : Fdt) (taken : Bool) (f : Fdt) : Type 0 where
@@ -48,8 +47,7 @@ record Reached (g : Fdt) (taken : Bool) (f : Fdt) : Type 0 where
 
 -- once the FDT's transfer has ended
 done-view : (now : ℕ) (f : Fdt) → fdt-of (fdt-done-of now f) fdt-idle-of ≡ record { state = DefState.fdt-done now (state-of (f .announcer)); hand = none }
-unfolding fdt-done-of
-done-view now f = ap (λ s. record { state = s; hand = none }) (state-done now (f .announcer))
+done-view now f = ap (λ s. record { state = s; hand = none }) (ap state-of (fdt-done-side now f) ∙ state-done now (f .announcer))
 
 -- ---- the next FDT
 
@@ -59,7 +57,7 @@ draft-left draft true = refl
 draft-left draft false = refl
 
 left-untaken : (now : ℕ) (draft : Draft) (f : Fdt) (taken : Bool) → taken ≡ true → next-fdt-of now (left-of draft taken) f .taken ≡ false
-left-untaken now draft f true e = next-untaken now f
+left-untaken now draft f true e = next-fdt-untaken now f
 left-untaken now draft f false e = absurd (false≢true e)
 
 -- what is marked is marked once
@@ -83,7 +81,7 @@ unfolding fdt-begun-of new-of
 begins-stands w f x true n h c e = record {
   busy = λ t. (
       let k = h .current (c refl) in
-      record { encoder = new-sound (f .announcer .current .part) (f .settings .sizes) w false (record { cut = refl; sizes = k .sizes; fits = k .fits }) n; sizes = refl; width = refl });
+      record { encoder = fdt-begun-valid w (f .announcer .current .id) (f .announcer .current .part) (f .settings .sizes) n k; sizes = refl; width = refl });
   idle = λ t. absurd (true≢false t);
 }
 begins-stands w f x false n h c e = record { busy = λ t. absurd (false≢true (sym (ap (λ (y : FdtSession). y .busy) e) ∙ t)); idle = λ t. e }
@@ -98,13 +96,13 @@ module _ (u : Setup) (w now : ℕ) (f : Fdt) (set : SetFor u w (f .settings)) (h
   ruled = rule-said u (f .settings .«from_start») (f .settings .interval) (set .carousel)
 
   asked-taken : next-fdt-of now draft f .taken ≡ asked .taken
-  asked-taken = next-taken now draft f ∙ Laws.next-taken (f .announcer) (h .valid .fdts) u (fdt-rule (f .settings .«from_start») (f .settings .interval)) (f .settings .validity) now draft (set .validity) ruled
+  asked-taken = next-fdt-taken now draft f ∙ Laws.next-taken (f .announcer) (h .valid .fdts) u (fdt-rule (f .settings .«from_start») (f .settings .interval)) (f .settings .validity) now draft (set .validity) ruled
 
   asked-state : state-of (next-fdt-of now draft f .fdt .announcer) ≡ asked .state
-  asked-state = ap state-of (next-announcer now draft f) ∙ Laws.next-state (f .announcer) (h .valid .fdts) u (fdt-rule (f .settings .«from_start») (f .settings .interval)) (f .settings .validity) now draft (set .validity) ruled
+  asked-state = ap state-of (next-fdt-side now draft f) ∙ Laws.next-state (f .announcer) (h .valid .fdts) u (fdt-rule (f .settings .«from_start») (f .settings .interval)) (f .settings .validity) now draft (set .validity) ruled
 
   asked-starts : (if next-fdt-of now draft f .starts then some (instance-of (next-fdt-of now draft f .fdt .announcer .current)) else none) ≡ asked .starts
-  asked-starts = (λ i. if next-starts now draft f i then some (instance-of (next-announcer now draft f i .current)) else none)
+  asked-starts = (λ i. if next-fdt-starts now draft f i then some (instance-of (next-fdt-side now draft f i .current)) else none)
       ∙ Laws.next-starts (f .announcer) (h .valid .fdts) u (fdt-rule (f .settings .«from_start») (f .settings .interval)) (f .settings .validity) now draft (set .validity) ruled
 
 -- ---- a round
@@ -141,7 +139,7 @@ module _ (u : Setup) (w now : ℕ) (g : Fdt) (set : SetFor u w (g .settings)) wh
 
       reads : x .busy ≡ true → Reads false (x .encoder) r → FdtInHand f w x → (a : Emitted) → FdtRounds w g (round-by (emitted-said a, encoder-of (r .encoder))) (fdt-sent-by now taken f x (r .encoder) a)
       reads b m h EmittedV.Nothing = subst (λ d. FdtRounds w g (Def.FdtRound.again taken d) (record { taken = taken; answer = Over; fdt = fdt-done-of now f; session = fdt-idle-of })) (done-view now f)
-          (ended taken (fdt-done-of now f) (record { holds = fdt-holds-done now f (re .holds); slots = done-slots now f ∙ re .slots; same = objects-on (re .same) (done-objects now f) }))
+          (ended taken (fdt-done-of now f) (record { holds = fdt-holds-done now f (re .holds); slots = fdt-done-slots now f ∙ re .slots; same = objects-on (re .same) (fdt-done-objects now f) }))
       reads b m h (EmittedV.One s) = sent (record {
         view = λ i. record {
           taken = taken;
@@ -187,13 +185,13 @@ module _ (u : Setup) (w now : ℕ) (g : Fdt) (set : SetFor u w (g .settings)) wh
     next-reached : Reached g (taken || n .taken) (n .fdt)
     next-reached = record {
       holds = fdt-holds-next now (left-of draft taken) f (re .holds) (good-left (f .settings .sizes) draft (subst (λ (z : Settings). GoodDraft (z .sizes) draft) (sym (re .same .settings)) good) taken);
-      slots = next-slots now (left-of draft taken) f ∙ ap (marked-slots (n .taken)) (re .slots) ∙ marked-once taken (n .taken) (g .slots) (left-untaken now draft f taken);
-      same = objects-on (re .same) (next-objects now (left-of draft taken) f);
+      slots = next-fdt-slots now (left-of draft taken) f ∙ ap (marked-slots (n .taken)) (re .slots) ∙ marked-once taken (n .taken) (g .slots) (left-untaken now draft f taken);
+      same = objects-on (re .same) (next-fdt-objects now (left-of draft taken) f);
     }
 
     next-stands : x .busy ≡ false → FdtStands (n .fdt) w y
-    next-stands b = subst (λ (z : Settings). FdtStands (n .fdt) w (begins w (z .sizes) x (n .fdt .announcer) (n .starts))) (next-objects now (left-of draft taken) f .settings)
-        (begins-stands w (n .fdt) x (n .starts) narrow (next-reached .holds) (next-has-current now (left-of draft taken) f) (st .idle b))
+    next-stands b = subst (λ (z : Settings). FdtStands (n .fdt) w (begins w (z .sizes) x (n .fdt .announcer) (n .starts))) (next-fdt-objects now (left-of draft taken) f .settings)
+        (begins-stands w (n .fdt) x (n .starts) narrow (next-reached .holds) (next-fdt-current now (left-of draft taken) f) (st .idle b))
 
     -- the definition's next FDT, in hand where it starts
     abbrev after-next : Option Part → Bool × Def.Fdt

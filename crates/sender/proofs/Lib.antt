@@ -11,8 +11,8 @@ pub mod SessionLaws
 pub mod SessionRounds
 pub mod SessionTakes
 pub mod SessionViews
-pub mod FdtSessionLaws
 pub mod FdtSessionFacts
+pub mod FdtSessionLaws
 pub mod FdtSessionViews
 pub mod DeskCounts
 pub mod DeskNumbers

@@ -34,7 +34,8 @@ use Rattle.sender.specs.declared.sendersession.SenderSession.{SenderSess
 use Rattle.sender.specs.declared.sendersession.Ran.{Ran}
 use Rattle.sender.specs.declared.fdtsession.FdtRan.{FdtRan}
 use Rattle.sender.proofs.SessionLaws.{holds-added, holds-removed, holds-triggered, holds-published, holds-reserved, holds-released, holds-completed}
-use Rattle.sender.proofs.FdtSessionLaws.{SameSide, fdt-holds-over, fdt-holds-published, same-completed, same-reserved, same-released, same-added, same-removed, same-triggered}
+use Rattle.lifecycle.proofs.FdtKeeps.{ObjectsOnly, reserved-keeps, released-keeps, added-keeps, removed-keeps, triggered-keeps}
+use Rattle.sender.proofs.FdtSessionLaws.{fdt-holds-over, fdt-holds-published}
 use Rattle.sender.proofs.DeskNumbers.{reserve-kept, release-kept, complete-kept}
 use Rattle.sender.proofs.DeskListed.{listed-kept, transfers-kept}
 use Rattle.sender.proofs.DeskByNumber.{remove-kept, trigger-kept}
@@ -45,32 +46,32 @@ use Rattle.sender.proofs.DeskFdtRuns.{run-fdt-kept}
 
 module _ (s : Sender) (v : Valid s) where
   -- a list that has the same FDT side
-  beside : (r : Fdt) → Holds r → SameSide (s .fdt) r → FdtHolds r
-  beside r h e = fdt-holds-over (s .fdt) r (v .fdt-holds) (h .valid) e
+  beside : (r : Fdt) → Holds r → ObjectsOnly (s .fdt) r → FdtHolds r
+  beside r h e = fdt-holds-over (s .fdt) r (v .fdt-holds) (h .valid) (e .settings) (e .announcer)
 
   pub reserves : Reserves s (reserving-of s)
   unfolding reserving-of
   reserves =
       let h = holds-reserved (s .fdt) (v .holds) in
-      record { exact = refl; kept = reserve-kept s v h (beside (reserved-of (s .fdt) .fdt) h (same-reserved (s .fdt))) }
+      record { exact = refl; kept = reserve-kept s v h (beside (reserved-of (s .fdt) .fdt) h (reserved-keeps (s .fdt))) }
 
   pub releases : (t : ℕ) → Releases t s (releasing-of t s)
   unfolding releasing-of
   releases t =
       let h = holds-released (s .fdt) (v .holds) t in
-      record { exact = refl; kept = release-kept t s v h (beside (released-of t (s .fdt) .fdt) h (same-released (s .fdt) t)) }
+      record { exact = refl; kept = release-kept t s v h (beside (released-of t (s .fdt) .fdt) h (released-keeps (s .fdt) t)) }
 
   pub removes : (t : ℕ) → Removes t s (removing-of t s)
   unfolding removing-of
   removes t =
       let h = holds-removed (s .fdt) (v .holds) t in
-      record { exact = refl; kept = remove-kept s t v h (beside (removed-of t (s .fdt) .fdt) h (same-removed (s .fdt) t)) }
+      record { exact = refl; kept = remove-kept s t v h (beside (removed-of t (s .fdt) .fdt) h (removed-keeps (s .fdt) t)) }
 
   pub prompts : (t : ℕ) (start : Time) → Prompts t start s (prompting-of t start s)
   unfolding prompting-of
   prompts t start =
       let h = holds-triggered (s .fdt) (v .holds) t start in
-      record { exact = refl; kept = trigger-kept s t start v h (beside (triggered-of t start (s .fdt) .fdt) h (same-triggered (s .fdt) t start)) }
+      record { exact = refl; kept = trigger-kept s t start v h (beside (triggered-of t start (s .fdt) .fdt) h (triggered-keeps (s .fdt) t start)) }
 
   pub lists : (t : ℕ) → Lists t s (is-added-of t (s .fdt))
   lists t = record { exact = refl; kept = listed-kept s v t }
@@ -81,7 +82,7 @@ module _ (s : Sender) (v : Valid s) where
   pub completes : Completes s (completing-of s)
   completes =
       let h = holds-completed (s .fdt) (v .holds) in
-      record { exact = refl; kept = complete-kept s v h (beside (completed-of (s .fdt)) h (same-completed (s .fdt))) }
+      record { exact = refl; kept = complete-kept s v h (fdt-holds-over (s .fdt) (completed-of (s .fdt)) (v .fdt-holds) (h .valid) refl refl) }
 
   pub publishes : (now : ℕ) (c : Part) → Publishes now c s (publishing-of now c s)
   unfolding publishing-of
@@ -96,7 +97,7 @@ module _ (s : Sender) (v : Valid s) where
     exact = refl;
     kept = add-kept o named v
         (if-on (λ (r : Adding). Holds (r .sender .fdt)) (any (has-priority (o .priority)) (working s)) (λ e. admits) (λ e. v .holds))
-        (if-on (λ (r : Adding). FdtHolds (r .sender .fdt)) (any (has-priority (o .priority)) (working s)) (λ e. beside (added-of (s .fdt) (request-of o) named .fdt) admits (same-added (s .fdt) (request-of o) named)) (λ e. v .fdt-holds));
+        (if-on (λ (r : Adding). FdtHolds (r .sender .fdt)) (any (has-priority (o .priority)) (working s)) (λ e. beside (added-of (s .fdt) (request-of o) named .fdt) admits (added-keeps (s .fdt) (request-of o) named)) (λ e. v .fdt-holds));
   }
     where
       admits : Holds (added-of (s .fdt) (request-of o) named .fdt)

@@ -9,10 +9,9 @@ use borrow.Author.Tests.{eqb-true}
 use Rattle.sizes.specs.Words.{if_then_else_}
 use Rattle.sizes.proofs.Tests.{and-right}
 use Rattle.sizes.proofs.Lists.{map-append}
-use Rattle.lifecycle.specs.Lifecycle
 use Rattle.lifecycle.specs.Lifecycle.{too-early}
 use Rattle.lifecycle.specs.Setup.{Setup}
-use Rattle.lifecycle.specs.FileDesc.{plan-of, pace-said, ticked-of}
+use Rattle.lifecycle.specs.FileDesc.{pace-said, ticked-of}
 use Rattle.lifecycle.specs.Slots.{slot-at}
 use Rattle.lifecycle.specs.Announce.{waits-of}
 use Rattle.lifecycle.specs.FdtCalls.{files, sends, goes-back, ended-file, done-of}
@@ -22,11 +21,12 @@ use Rattle.lifecycle.specs.declared.fdt.Fdt.{Fdt}
 use Rattle.lifecycle.proofs.FileDescLaws.{life-done, ticked-view}
 use Rattle.lifecycle.proofs.FdtViews.{done-view}
 use Rattle.lifecycle.proofs.FdtSent.{done-sent}
+use Rattle.lifecycle.proofs.TakesKeep.{goes-back-as, done-other}
 use Rattle.definition.specs.Encoder as DefEncoder
 use Rattle.definition.specs.Session as Def
 use Rattle.sender.specs.EncoderCalls.{encoder-of, symbol-said, emitted-said, read-of, Reads}
 use Rattle.sender.specs.SessionCalls.{object-of, hand-of, Holds, idle-of, forced-slot, service-by, served-of, ran-by, attended-of}
-use Rattle.sender.specs.SessionMeans.{InHand, has-slot, queue-of, turn-of, FileRuns}
+use Rattle.sender.specs.SessionMeans.{InHand, queue-of}
 use Rattle.sender.specs.declared.blockencoder.BlockEncoder.{BlockEncoder}
 use Rattle.sender.specs.declared.blockencoder.Symbol.{Symbol}
 use Rattle.sender.specs.declared.blockencoder.Emitted.{Emitted}
@@ -38,7 +38,8 @@ use Rattle.sender.specs.declared.sendersession.Served.the-variants.{Idle
 use Rattle.sender.specs.declared.sendersession.Service.{Service}
 use Rattle.sender.specs.declared.sendersession.Ran.{Ran}
 use Rattle.sender.proofs.EncoderReads.{read-means}
-use Rattle.sender.proofs.SessionFacts.{same-side, same-on, done-other, done-side, holds-done}
+use Rattle.sender.proofs.SessionFacts.{has-slot, turn-of, FileRuns, same-side, same-on, done-side}
+use Rattle.sender.proofs.SessionLaws.{holds-done}
 
 -- what the definition has in hand
 abbrev pub in-hand : Fdt → SenderSession → Def.Hand
@@ -53,10 +54,8 @@ after x y = record { priority = x .priority; busy = x .busy; slot = x .slot; pac
 -- it goes back where the definition puts it back
 back-same : (now : ℕ) (v : Slot) (x : SenderSession) (b : Bool) → goes-back now v ≡ b → (q : List Def.Object)
     → Def.put-back now (hand-of v x) q ≡ (if b then q ++ (object-of (ended-file now v) ∷ []) else q)
-unfolding Def.put-back goes-back
-back-same now v x b e q =
-    sym (ap (λ l. if v .listed && not (Lifecycle.expired (plan-of (v .file .rule)) l) then q ++ (Def.living l (object-of (v .file)) ∷ []) else q) (life-done now (v .file .life)))
-    ∙ ap (λ c. if c then q ++ (object-of (ended-file now v) ∷ []) else q) e
+unfolding Def.put-back
+back-same now v x b e q = λ i. if (sym (goes-back-as now v) ∙ e) i then q ++ (Def.living (sym (life-done now (v .file .life)) i) (object-of (v .file)) ∷ []) else q
 
 module _ (now w : ℕ) (f : Fdt) (g : Holds f) (x : SenderSession) (h : InHand f w x) where
   -- what waits after the end of the transfer
@@ -121,8 +120,8 @@ module _ (now w : ℕ) (f : Fdt) (g : Holds f) (x : SenderSession) (h : InHand f
   apart j n = sym (ap (λ c. c && eqb (x .slot) j) b) ∙ n
 
   -- the end of the transfer, and on from there
-  goes-on : (m : Def.Turn) (r : Ran) → FileRuns w (done-of now (x .slot) f) (idle-of (x .priority)) m r → FileRuns w f x m r
-  goes-on m r k = record {
+  after-end : (m : Def.Turn) (r : Ran) → FileRuns w (done-of now (x .slot) f) (idle-of (x .priority)) m r → FileRuns w f x m r
+  after-end m r k = record {
     view = k .view;
     holds = k .holds;
     stands = k .stands;
@@ -201,4 +200,4 @@ module _ (u : Setup) (now w : ℕ) (window : u .window ≡ w) (f : Fdt) (g : Hol
       go false false EmittedV.Nothing =
           let d = done-of now (x .slot) f in
           subst (λ q. Rounds w f x (Def.Round.again q) (record { answer = Over; fdt = d; session = idle-of (x .priority) })) (sym (done-queue now w f g x h))
-          (ended d (holds-done f g now (x .slot)) (done-side f (g .valid) now (x .slot) .announcer) (goes-on now w f g x h b))
+          (ended d (holds-done f g now (x .slot)) (done-side f (g .valid) now (x .slot) .announcer) (after-end now w f g x h b))

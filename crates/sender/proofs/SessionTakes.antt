@@ -20,6 +20,7 @@ use Rattle.lifecycle.specs.declared.slots.Slot.{Slot}
 use Rattle.lifecycle.specs.declared.fdt.Fdt.{Fdt}
 use Rattle.lifecycle.proofs.FileDescLaws.{life-started, pace-view}
 use Rattle.lifecycle.proofs.FdtFacts.{waits-at}
+use Rattle.lifecycle.proofs.TakesKeep.{startable-as}
 use Rattle.definition.specs.Encoder as DefEncoder
 use Rattle.definition.specs.Session as Def
 use Rattle.sender.specs.EncoderCalls.{new-of}
@@ -51,8 +52,8 @@ files-unsent f v n o e =
     subst (λ (a : FileDesc). a .life .transferring ≡ false) (h .2) (waits-at f v n (h .0) (h .1) .unsent)
 
 startable-same : (p now : ℕ) (o : FileDesc) → o .life .transferring ≡ false → Def.startable p now (object-of o) ≡ startable-file p now o
-unfolding Def.startable startable-file
-startable-same p now o e = rw e
+unfolding Def.startable
+startable-same p now o e = sym (startable-as p now o e)
 
 module _ (f : Fdt) (v : ListValid f) (p now : ℕ) where
   pub find-startable : find (Def.startable p now) (queue-of f) ≡ over object-of (find (startable-file p now) (files f))

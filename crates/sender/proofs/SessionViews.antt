@@ -12,7 +12,7 @@ use Rattle.sizes.specs.Limits.{largest-window}
 use Rattle.sizes.proofs.Tests.{Tested, pass, fail, tested, and-left}
 use Rattle.sizes.proofs.Lists.{found-none}
 use Rattle.lifecycle.specs.Setup.{Setup}
-use Rattle.lifecycle.specs.FileDesc.{started-life, startable-file}
+use Rattle.lifecycle.specs.FileDesc.{startable-file}
 use Rattle.lifecycle.specs.Slots.{no-slot, slot-at}
 use Rattle.lifecycle.specs.Announce.{waits-of}
 use Rattle.lifecycle.specs.FdtCalls.{files, sends, taken-of}
@@ -24,16 +24,17 @@ use Rattle.lifecycle.specs.declared.fdt.Fdt.{Fdt}
 use Rattle.lifecycle.specs.declared.fdt.Taken.{Taken}
 use Rattle.lifecycle.proofs.FdtFacts.{used-sends}
 use Rattle.lifecycle.proofs.FdtViews.{at-each, taken-view}
+use Rattle.lifecycle.proofs.TakesKeep.{started-sends}
 use Rattle.definition.specs.Session as Def
 use Rattle.sender.specs.EncoderCalls.{new-of}
 use Rattle.sender.specs.SessionCalls.{object-of, hand-of, session-of, Holds, Runs, idle-of, begun-of, attended-of, taken-by, taken-on-of, again-by, ran-of}
-use Rattle.sender.specs.SessionMeans.{InHand, Stands, has-slot, queue-of, packet-said, turn-of, SameSide, FileRuns}
-use Rattle.sender.specs.declared.blockencoder.Symbol.{Symbol}
+use Rattle.sender.specs.SessionMeans.{InHand, Stands, queue-of}
 use Rattle.sender.specs.declared.sendersession.SenderSession.{SenderSession}
 use Rattle.sender.specs.declared.sendersession.Served.{Served}
-use Rattle.sender.specs.declared.sendersession.Served.the-variants.{Idle, Sent, Over}
+use Rattle.sender.specs.declared.sendersession.Served.the-variants.{Idle, Over}
 use Rattle.sender.specs.declared.sendersession.Ran.{Ran}
-use Rattle.sender.proofs.SessionFacts.{same-side, same-on, taken-side, holds-taken}
+use Rattle.sender.proofs.SessionFacts.{has-slot, packet-said, SameSide, FileRuns, same-side, same-on, taken-side}
+use Rattle.sender.proofs.SessionLaws.{holds-taken}
 use Rattle.sender.proofs.SessionRounds.{in-hand, has-sent, Rounds, waits, sent, ended, attended-round}
 use Rattle.sender.proofs.SessionTakes.{find-startable, drop-startable, begun-hand, begun-valid}
 
@@ -84,12 +85,15 @@ module _ (u : Setup) (w now : ℕ) (window : u .window ≡ w) (narrow : w ≤ la
     abbrev y : SenderSession
     y = begun-of w now (x .priority) k (file-at (t .slots) k)
 
+    k-in : sends (slot-at (t .slots) k) ≡ true
+    k-in = ap sends (s .new) ∙ started-sends now (slot-at (f .slots) k)
+
     begun-in : InHand t w y
-    unfolding begun-of new-of started-life
+    unfolding begun-of new-of
     begun-in = record {
       slot = (let a = wt .inn in let b = g .valid .slots-long in omega arith);
-      sent = ap sends (s .new);
-      encoder = begun-valid w now (x .priority) k (file-at (t .slots) k) (gt .good k (used-sends (slot-at (t .slots) k) (ap sends (s .new)))) narrow;
+      sent = k-in;
+      encoder = begun-valid w now (x .priority) k (file-at (t .slots) k) (gt .good k (used-sends (slot-at (t .slots) k) k-in)) narrow;
       part = refl;
       sizes = refl;
       width = refl;
@@ -110,9 +114,8 @@ module _ (u : Setup) (w now : ℕ) (window : u .window ≡ w) (narrow : w ≤ la
     k-unsent j e = subst (λ i. sends (slot-at (f .slots) i) ≡ false) (eqb-true k j e) (wt .unsent)
 
     k-sent : (j : ℕ) → sends (slot-at (t .slots) j) ≡ (eqb k j || sends (slot-at (f .slots) j))
-    unfolding started-life
     k-sent = at-each (λ j. sends (slot-at (t .slots) j) ≡ (eqb k j || sends (slot-at (f .slots) j))) k
-        (ap sends (s .new) ∙ sym (ap (λ b. b || sends (slot-at (f .slots) k)) (eq-eqb k k refl)))
+        (k-in ∙ sym (ap (λ b. b || sends (slot-at (f .slots) k)) (eq-eqb k k refl)))
         (λ j e. ap sends (s .same j e) ∙ sym (ap (λ b. b || sends (slot-at (f .slots) j)) e))
 
     k-apart : (j : ℕ) → sends (slot-at (f .slots) j) ≡ true → eqb k j ≡ false
@@ -150,7 +153,7 @@ module _ (u : Setup) (w now : ℕ) (window : u .window ≡ w) (narrow : w ≤ la
   -- the whole round with nothing in hand
   taken-on-means : FileRuns w f x (Def.last-round (Def.round u (x .priority) now (waits-of (f .announcer)) (queue-of f) none)) (taken-on-of w now f x)
   unfolding taken-on-of
-  taken-on-means = go (taken-of (x .priority) now f) (holds-taken f (x .priority) now g) (taken-side f (x .priority) now) (taken-view f (g .valid) (x .priority) now)
+  taken-on-means = go (taken-of (x .priority) now f) (holds-taken f g (x .priority) now) (taken-side f (x .priority) now) (taken-view f (g .valid) (x .priority) now)
     where
       -- the definition's round, and the code's after what was taken
       P : Taken → Type 0
