@@ -8,6 +8,7 @@ pub mod FdtLaws
 pub mod FdtValid
 pub mod FdtViews
 pub mod FdtByNumber
+pub mod FdtKeeps
 pub mod FdtSearches
 pub mod FdtAdds
 pub mod FdtSent
