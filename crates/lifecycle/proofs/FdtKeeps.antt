@@ -3,11 +3,12 @@ use mathlib.Core.Path.{_≡_, refl, sym, ap}
 use mathlib.Core.Bool.{Bool, true, false, _||_}
 use mathlib.Core.Option.{Option, none, some}
 use mathlib.Core.List.{List, [], _∷_}
-use Prim.Native.Nat.{ℕ, _<_}
+use Prim.Native.Nat.{ℕ, zero, suc, _<_}
 use lib.Dec.{eqb, ltb, leb}
+use lib.ListN.{replicate}
 use borrow.Author.Tests.{leb-false}
 use Rattle.sizes.specs.Words.{if_then_else_, maybe, given, has, place, first-of}
-use Rattle.sizes.specs.Limits.{toi-entries, waiting-fdts}
+use Rattle.sizes.specs.Limits.{object-slots, toi-entries, waiting-fdts}
 use Rattle.sizes.specs.declared.refusal.Refusal.{Refusal}
 use Rattle.sizes.specs.declared.refusal.Refusal.the-variants as Because
 use Rattle.sizes.specs.Allocator as Alloc
@@ -17,9 +18,9 @@ use Rattle.sizes.specs.declared.toiallocator.Allocated.{Allocated}
 use Rattle.sizes.specs.declared.toiallocator.Changed.{Changed}
 use Rattle.sizes.proofs.Tests.{none≢some, or-left, or-right}
 use Rattle.lifecycle.specs.Setup.{bad-blocks}
-use Rattle.lifecycle.specs.Slots.{slot-at, is-free, queue-startable, published-slot}
-use Rattle.lifecycle.specs.Announce.{draft-given, queued-of, bad-fdt-of}
-use Rattle.lifecycle.specs.FdtCalls.{waiting, sends, Valid, with-tois, with-slots, with-objects, reserved-of, released-of, own-of, bad-part-of, put-of, named-of, fresh-of, numbered-of, added-of, listed-place, is-added-of, unlisted-of, freed-of, removed-of, triggered-of, taken-at, taken-of, goes-back, back-of, let-go-of, done-of, announced, publish-of, real-draft, draft-test-of}
+use Rattle.lifecycle.specs.Slots.{no-slot, slot-at, is-free, queue-startable, published-slot}
+use Rattle.lifecycle.specs.Announce.{state-of, draft-given, queued-of, bad-fdt-of}
+use Rattle.lifecycle.specs.FdtCalls.{waiting, files, sends, Valid, with-tois, with-slots, with-objects, reserved-of, released-of, own-of, bad-part-of, put-of, named-of, fresh-of, numbered-of, added-of, listed-place, is-added-of, unlisted-of, freed-of, removed-of, triggered-of, taken-at, taken-of, goes-back, back-of, let-go-of, done-of, announced, publish-of, real-draft, draft-test-of, opening-fdt}
 use Rattle.lifecycle.specs.FdtMeans.{Removal, nobody, sent, waited, published-file}
 use Rattle.lifecycle.specs.declared.parts.Part.{Part}
 use Rattle.lifecycle.specs.declared.filedesc.Time.{Time}
@@ -28,6 +29,7 @@ use Rattle.lifecycle.specs.declared.announce.Announcer.{Announcer}
 use Rattle.lifecycle.specs.declared.announce.Draft.{Draft}
 use Rattle.lifecycle.specs.declared.announce.Draft.the-variants as DraftV
 use Rattle.lifecycle.specs.declared.fdt.Fdt.{Fdt}
+use Rattle.lifecycle.specs.declared.fdt.Settings.{Settings}
 use Rattle.lifecycle.specs.declared.fdt.Own.the-variants as OwnV
 use Rattle.lifecycle.specs.declared.fdt.Named.{Named}
 use Rattle.lifecycle.specs.declared.fdt.Named.the-variants as NamedV
@@ -256,3 +258,26 @@ pub draft-test-as : (draft : Draft) (f : Fdt) → draft-test-of draft f
 unfolding draft-test-of
 draft-test-as DraftV.Missing f = refl
 draft-test-as (DraftV.Given c) f = refl
+
+-- ---- before the first call
+
+-- nothing waits, no slot is held, and there is no FDT
+pub record OpeningList (z : Settings) (a : ToiAllocator) (id : ℕ) (f : Fdt) : Type 0 where
+  pub settings : f .settings ≡ z
+  pub complete : f .complete ≡ false
+  pub tois : f .tois ≡ a
+  pub queue : files f ≡ []
+  pub slots : (k : ℕ) → slot-at (f .slots) k ≡ no-slot
+  pub side : state-of (f .announcer) ≡ record { next-id = id; last = none; waiting = []; current = none }
+  pub none-waits : f .announcer .waiting ≡ 0
+  pub no-current : f .announcer .«has_current» ≡ false
+  pub none-sent : f .announcer .current .life .transferring ≡ false
+
+pub opening-list : (z : Settings) (a : ToiAllocator) (id : ℕ) → OpeningList z a id (opening-fdt z a id)
+unfolding opening-fdt state-of
+opening-list z a id = record { settings = refl; complete = refl; tois = refl; queue = refl; slots = free object-slots; side = refl; none-waits = refl; no-current = refl; none-sent = refl }
+  where
+    free : (m k : ℕ) → slot-at (replicate m no-slot) k ≡ no-slot
+    free zero k = refl
+    free (suc m) zero = refl
+    free (suc m) (suc k) = free m k

@@ -13,9 +13,9 @@ use Rattle.sizes.specs.Words.{given, any, at, place, one-if, tally, Counts}
 use Rattle.sizes.specs.Limits.{object-slots}
 use Rattle.sizes.proofs.Lists.{Sought, hit, miss, sought, at-get, found-none}
 use Rattle.sizes.proofs.Tables.{find-any, tally-all, tally-lt, counts-length, any-counts}
-use Rattle.lifecycle.specs.Parts.{shares}
+use Rattle.lifecycle.specs.Parts.{shares, past-store}
 use Rattle.lifecycle.specs.Slots.{no-slot, slot-at, is-free, is-listed-as, holds-byte}
-use Rattle.lifecycle.specs.FdtCalls.{waiting, files, sends, used, waits, Tidy, Valid, is-added-of}
+use Rattle.lifecycle.specs.FdtCalls.{waiting, files, sends, used, waits, Tidy, Valid, bad-part-of, is-added-of}
 use Rattle.lifecycle.specs.FdtMeans.{file-at}
 use Rattle.lifecycle.specs.declared.parts.Part.{Part}
 use Rattle.lifecycle.specs.declared.filedesc.FileDesc.{FileDesc}
@@ -75,6 +75,11 @@ module _ (f : Fdt) (v : Valid f) where
       twice : (b : Bool) → not (not b) ≡ b
       twice true = refl
       twice false = refl
+
+  -- refusal 5: past the store, or a byte shared with a held object
+  pub bad-part-used : (c : Part) → bad-part-of f c ≡ (past-store (f .settings .«object_store») c || any (λ (y : Slot). used y && shares c (y .file .part)) (f .slots))
+  unfolding bad-part-of
+  bad-part-used c = ap (λ b. past-store (f .settings .«object_store») c || b) (bytes-used c)
 
   -- one that waits, or one in transfer
   pub bytes-view : (c : Part) → any (holds-byte c) (f .slots) ≡ (any (λ (o : FileDesc). shares c (o .part)) (files f) || any (λ (y : Slot). sends y && shares c (y .file .part)) (f .slots))

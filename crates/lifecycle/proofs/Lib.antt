@@ -9,6 +9,7 @@ pub mod FdtValid
 pub mod FdtViews
 pub mod FdtByNumber
 pub mod FdtKeeps
+pub mod AnnounceSends
 pub mod FdtSearches
 pub mod FdtAdds
 pub mod FdtSent

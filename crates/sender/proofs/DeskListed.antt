@@ -14,6 +14,7 @@ use Rattle.lifecycle.specs.FdtCalls.{files, listed-place, is-added-of, transfer
 use Rattle.lifecycle.specs.FdtMeans.{file-at, listed-files}
 use Rattle.lifecycle.specs.declared.filedesc.FileDesc.{FileDesc}
 use Rattle.lifecycle.specs.declared.slots.Slot.{Slot}
+use Rattle.lifecycle.proofs.FdtKeeps.{is-added-as}
 use Rattle.lifecycle.proofs.FdtByNumber.{listed-view, transfers-listed}
 use Rattle.definition.specs.Session.{Object, Hand}
 use Rattle.definition.specs.Desk.{Question, Call, Answer, is, listed-in-hands, listed-as, step}
@@ -65,8 +66,8 @@ module _ (s : Sender) (v : Valid s) (t : ℕ) where
       go (some k) = refl
 
   pub listed-kept : Kept s (Call.ask (Question.listed t)) (Answer.truth (is-added-of t (s .fdt))) s
-  unfolding step is-added-of
-  listed-kept = record { means = λ u w. ap (λ b. (Answer.truth b, desk-of s)) listed-answer; agrees = λ u w. w; valid = v }
+  unfolding step
+  listed-kept = record { means = λ u w. ap (λ b. (Answer.truth b, desk-of s)) (listed-answer ∙ sym (is-added-as t (s .fdt))); agrees = λ u w. w; valid = v }
 
   -- its total
   pub transfers-answer : maybe none (λ (o : Object). some (o .life .total)) (listed-as (desk-of s) t) ≡ transfers-of t (s .fdt)
