@@ -1,11 +1,11 @@
 -- The current FDT is being transferred from its start to its end: what each call of the FDT side makes of that.
 use mathlib.Core.Path.{_≡_, refl, _∙_, ap}
-use mathlib.Core.Bool.{Bool, true, false, _&&_}
+use mathlib.Core.Bool.{Bool, false, _&&_}
 use Prim.Native.Nat.{ℕ}
 use native.Mathlib.Omega.{arith}
 use lib.Dec.{eqb}
 use borrow.Author.Tests.{eqb-false}
-use Rattle.sizes.specs.Words.{if_then_else_, given}
+use Rattle.sizes.specs.Words.{given}
 use Rattle.lifecycle.specs.Lifecycle.{may-start}
 use Rattle.lifecycle.specs.FileDesc.{plan-of, life-of, started-life, done-life}
 use Rattle.lifecycle.specs.Announce as Ann

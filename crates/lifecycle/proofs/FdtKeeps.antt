@@ -20,8 +20,8 @@ use Rattle.sizes.proofs.Tests.{none≢some, or-left, or-right}
 use Rattle.lifecycle.specs.Setup.{bad-blocks}
 use Rattle.lifecycle.specs.Slots.{no-slot, slot-at, is-free, queue-startable, published-slot}
 use Rattle.lifecycle.specs.Announce.{state-of, draft-given, queued-of, bad-fdt-of}
-use Rattle.lifecycle.specs.FdtCalls.{waiting, files, sends, Valid, with-tois, with-slots, with-objects, reserved-of, released-of, own-of, bad-part-of, put-of, named-of, fresh-of, numbered-of, added-of, listed-place, is-added-of, unlisted-of, freed-of, removed-of, triggered-of, taken-at, taken-of, goes-back, back-of, let-go-of, done-of, announced, publish-of, real-draft, draft-test-of, opening-fdt}
-use Rattle.lifecycle.specs.FdtMeans.{Removal, nobody, sent, waited, published-file}
+use Rattle.lifecycle.specs.FdtCalls.{waiting, files, sends, Valid, with-tois, with-objects, reserved-of, released-of, own-of, bad-part-of, put-of, named-of, fresh-of, numbered-of, added-of, listed-place, is-added-of, unlisted-of, freed-of, removed-of, triggered-of, taken-at, taken-of, goes-back, back-of, let-go-of, done-of, announced, publish-of, real-draft, draft-test-of, opening-fdt}
+use Rattle.lifecycle.proofs.FdtMeans.{Removal, nobody, sent, waited, published-file}
 use Rattle.lifecycle.specs.declared.parts.Part.{Part}
 use Rattle.lifecycle.specs.declared.filedesc.Time.{Time}
 use Rattle.lifecycle.specs.declared.slots.Slot.{Slot}
@@ -35,8 +35,6 @@ use Rattle.lifecycle.specs.declared.fdt.Named.{Named}
 use Rattle.lifecycle.specs.declared.fdt.Named.the-variants as NamedV
 use Rattle.lifecycle.specs.declared.fdt.Request.{Request}
 use Rattle.lifecycle.specs.declared.fdt.Added.{Added}
-use Rattle.lifecycle.specs.declared.fdt.Reserved.{Reserved}
-use Rattle.lifecycle.specs.declared.fdt.Released.{Released}
 use Rattle.lifecycle.specs.declared.fdt.Told.{Told}
 use Rattle.lifecycle.specs.declared.fdt.Taken.{Taken}
 use Rattle.lifecycle.specs.declared.fdt.Publication.the-variants as PublicationV
@@ -128,9 +126,9 @@ module _ (f : Fdt) where
   removed-numbers t v = by (removed-of t f) (removed-cases t f v)
     where
       by : (r : Told) → Removal t f r → SameNumbers f (r .fdt)
-      by r (nobody a q e) = record { next = ap (λ (x : Told). x .fdt .tois .next) e; loose = ap (λ (x : Told). Alloc.loose (x .fdt .tois)) e }
-      by r (sent k li s q y c w) = record { next = ap (λ (a : ToiAllocator). a .next) c; loose = ap Alloc.loose c }
-      by r (waited k n li h q y c w) = record { next = c .next-same; loose = c .loose-same }
+      by r (nobody h) = record { next = ap (λ (x : Told). x .fdt .tois .next) (h .unchanged); loose = ap (λ (x : Told). Alloc.loose (x .fdt .tois)) (h .unchanged) }
+      by r (sent k h) = record { next = ap (λ (a : ToiAllocator). a .next) (h .tois); loose = ap Alloc.loose (h .tois) }
+      by r (waited k n h) = record { next = h .number .next-same; loose = h .number .loose-same }
 
   -- trigger
   pub triggered-keeps : (t : ℕ) (start : Time) → ObjectsOnly f (triggered-of t start f .fdt)

@@ -3,6 +3,7 @@ pub mod SetupLaws
 pub mod PartLaws
 pub mod FileDescLaws
 pub mod AnnounceLaws
+pub mod FdtMeans
 pub mod FdtFacts
 pub mod FdtLaws
 pub mod FdtValid

@@ -22,10 +22,9 @@ use Rattle.lifecycle.specs.Slots.{slot-at}
 use Rattle.lifecycle.specs.Announce.{state-of}
 use Rattle.lifecycle.specs.FdtCalls.{files, sends, own-of, refusal, added-of}
 use Rattle.lifecycle.specs.FdtCalls.{new-slot}
-use Rattle.lifecycle.specs.FdtMeans.{ListAdds, Admits, refused, admits}
+use Rattle.lifecycle.proofs.FdtMeans.{ListAdds, Admits, refused, admits}
 use Rattle.lifecycle.specs.declared.fdt.Fdt.{Fdt}
 use Rattle.lifecycle.specs.declared.fdt.Added.{Added}
-use Rattle.lifecycle.specs.declared.fdt.Admission.{Admission}
 use Rattle.lifecycle.specs.declared.fdt.Admission.the-variants as AdmissionV
 use Rattle.lifecycle.specs.declared.fdt.Request.{Request}
 use Rattle.lifecycle.specs.declared.fdt.Named.{Named}
@@ -39,12 +38,12 @@ use Rattle.lifecycle.proofs.FileDescLaws.{plan-named}
 use Rattle.definition.specs.Desk as Def
 use Rattle.sender.specs.SessionCalls.{Holds, object-of}
 use Rattle.sender.specs.FdtSessionCalls.{FdtHolds, fdt-hand-of}
-use Rattle.sender.specs.SenderCalls.{working, desk-of, Agrees, Valid, Kept, add-answer, named-said, object-said, with-list, has-priority, request-of, admission-said, adding-of}
+use Rattle.sender.specs.SenderCalls.{working, desk-of, Agrees, Valid, Kept, add-answer, named-said, object-said, with-list, has-priority, request-of, adding-of}
 use Rattle.sender.specs.declared.sender.Sender.{Sender}
 use Rattle.sender.specs.declared.sender.Object.{Object}
 use Rattle.sender.specs.declared.sender.Adding.{Adding}
 use Rattle.sender.proofs.DeskCounts.{next-view}
-use Rattle.sender.proofs.DeskLists.{SentKept, sessions-same, list-valid, list-agrees}
+use Rattle.sender.proofs.DeskChanges.{sessions-same, SentKept, kept-stays, valid-list, agrees-list}
 use Rattle.sender.proofs.DeskRefusals.{own-view, add-refusal-view}
 
 -- ---- what an add leaves alone
@@ -98,7 +97,7 @@ module _ (u : Setup) (o : Object) (s : Sender) (agrees : Agrees u s) (v : Valid 
         next = next i;
         loose = loose i;
         queue = (ap (λ l. l ++ (Def.made u t (object-said o) ∷ [])) queue ∙ sym more) i;
-        sessions = (sessions ∙ sym (sessions-same s v (r .fdt) kept)) i;
+        sessions = (sessions ∙ sym (sessions-same s v (r .fdt .slots) kept)) i;
         fdt = (fdt ∙ sym (ap (λ a. record { state = state-of a; hand = fdt-hand-of (s .«fdt_session») }) (b .announcer))) i;
       }
 
@@ -147,10 +146,10 @@ module _ (o : Object) (named : Named) (s : Sender) (v : Valid s) where
 
   -- what the list makes of it is what the definition says
   list-means : (u : Setup) → Agrees u s → (r : Added) → ListAdds (s .fdt) (request-of o) (own-of (o .own) (s .fdt .settings .sizes)) named r → ObjectsOnly (s .fdt) (r .fdt)
-      → comes u (refusal (r .answer)) ≡ (add-answer (admission-said (r .answer)), desk-of (with-list s (r .fdt)))
-  list-means u a r (refused x e) b = subst (λ (r : Added). comes u (refusal (r .answer)) ≡ (add-answer (admission-said (r .answer)), desk-of (with-list s (r .fdt)))) (sym e) refl
+      → comes u (refusal (r .answer)) ≡ (add-answer (r .answer), desk-of (with-list s (r .fdt)))
+  list-means u a r (refused x e) b = subst (λ (r : Added). comes u (refusal (r .answer)) ≡ (add-answer (r .answer), desk-of (with-list s (r .fdt)))) (sym e) refl
   list-means u a r (admits k t h) b =
-      ap (λ x. comes u (refusal x)) (h .answer) ∙ desk-added u o s a v named k t r b h ∙ sym (ap (λ x. (add-answer (admission-said x), desk-of (with-list s (r .fdt)))) (h .answer))
+      ap (λ x. comes u (refusal x)) (h .answer) ∙ desk-added u o s a v named k t r b h ∙ sym (ap (λ x. (add-answer x, desk-of (with-list s (r .fdt)))) (h .answer))
 
   abbrev Good : Adding → Type 0
   Good r = Holds (r .sender .fdt) → FdtHolds (r .sender .fdt) → Kept s call (add-answer (r .answer)) (r .sender)
@@ -165,8 +164,8 @@ module _ (o : Object) (named : Named) (s : Sender) (v : Valid s) where
       if-on Good (any (has-priority (o .priority)) (working s))
       (λ e h g. record {
         means = λ u a. step-is u a e ∙ list-means u a r w b;
-        agrees = list-agrees s (r .fdt) (b .settings) (b .width);
-        valid = list-valid s v (r .fdt) (added-kept f (request-of o) (own-of (o .own) (f .settings .sizes)) named r w) h g (b .settings) (b .announcer) (added-sent f (v .holds .valid) (request-of o) named);
+        agrees = λ u a. agrees-list u s (r .fdt) (b .settings) (b .width) a;
+        valid = valid-list s (r .fdt) v (kept-stays f (r .fdt) b (added-sent f (v .holds .valid) (request-of o) named) (added-kept f (request-of o) (own-of (o .own) (f .settings .sizes)) named r w)) h g;
       })
       (λ e h g. record { means = λ u a. step-is u a e; agrees = λ u a. a; valid = v })
 

@@ -11,7 +11,7 @@ use Rattle.lifecycle.specs.FileDesc.{time-of, life-of, pace-said, with-life, re
 use Rattle.lifecycle.specs.Slots.{slot-at}
 use Rattle.lifecycle.specs.FdtCalls.{Valid as ListValid}
 use Rattle.lifecycle.specs.FdtCalls.{files, removed-of, triggered-of}
-use Rattle.lifecycle.specs.FdtMeans.{listed-but, reset-file}
+use Rattle.lifecycle.proofs.FdtMeans.{listed-but, reset-file}
 use Rattle.lifecycle.specs.declared.filedesc.Time.{Time}
 use Rattle.lifecycle.specs.declared.filedesc.FileDesc.{FileDesc}
 use Rattle.lifecycle.specs.declared.slots.Slot.{Slot}
@@ -30,7 +30,7 @@ use Rattle.sender.specs.SessionMeans.{SameSide}
 use Rattle.sender.specs.SenderCalls.{desk-of, Valid, Kept, with-list, removing-of, prompting-of}
 use Rattle.sender.specs.declared.sendersession.SenderSession.{SenderSession}
 use Rattle.sender.specs.declared.sender.Sender.{Sender}
-use Rattle.sender.proofs.DeskChanges.{sessions-moved, sessions-same, Stays, valid-list, agrees-list, desk-moved, listed-answer}
+use Rattle.sender.proofs.DeskChanges.{sessions-moved, sessions-same, Stays, kept-stays, valid-list, agrees-list, desk-moved, listed-answer}
 
 -- ---- remove
 
@@ -131,14 +131,7 @@ prompted-desk s v t start =
 pub triggered-stays : (s : Sender) → Valid s → (t : ℕ) (start : Time) → Stays (s .fdt) (triggered-of t start (s .fdt) .fdt)
 triggered-stays s v t start =
     let w = triggered-view t start (s .fdt) (v .holds .valid) in
-    let a = triggered-side t start (s .fdt) in
-    record {
-      settings = a .settings;
-      sent-same = w .sent-same;
-      part = λ j e. ap (λ (y : Slot). y .file .part) (w .same j e);
-      sizes = λ j e. ap (λ (y : Slot). y .file .sizes) (w .same j e);
-      current = ap (λ (n : Announcer). n .current .life .transferring) (a .announcer);
-    }
+    kept-stays (s .fdt) (triggered-of t start (s .fdt) .fdt) (triggered-keeps (s .fdt) t start) (w .sent-same) (w .same)
 
 pub trigger-kept : (s : Sender) (t : ℕ) (start : Time) → Valid s → Holds (prompting-of t start s .sender .fdt) → FdtHolds (prompting-of t start s .sender .fdt)
     → Kept s (Def.Call.touch t (Def.Touch.trigger (time-of start))) (Def.Answer.truth (prompting-of t start s .yes)) (prompting-of t start s .sender)

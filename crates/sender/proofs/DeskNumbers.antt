@@ -28,6 +28,7 @@ use Rattle.sender.specs.SessionCalls.{Holds}
 use Rattle.sender.specs.FdtSessionCalls.{FdtHolds}
 use Rattle.sender.specs.SenderCalls.{desk-of, Agrees, Valid, Kept, alloc-answer, with-list, reserving-of, releasing-of, completing-of}
 use Rattle.sender.specs.declared.sender.Sender.{Sender}
+use Rattle.sender.proofs.DeskChanges.{valid-list, agrees-list}
 use Rattle.sender.proofs.DeskCounts.{full-view, next-view}
 
 -- ---- the numbers are changed, or that the list is complete, and nothing else is
@@ -41,40 +42,13 @@ module _ (s : Sender) (c : Bool) (a : ToiAllocator) where
   abbrev pub numbered-sender : Sender
   numbered-sender = with-list s (numbered-list (s .fdt) c a)
 
-  pub valid-numbered : Valid s → Holds (numbered-sender .fdt) → FdtHolds (numbered-sender .fdt) → Valid numbered-sender
-  valid-numbered v h g = record {
-    holds = h;
-    fdt-holds = g;
-    object-store = v .object-store;
-    fdt-store = v .fdt-store;
-    narrow = v .narrow;
-    few = v .few;
-    long = v .long;
-    sessions = λ i l. (let x = v .sessions i l in record {
-      busy = λ b. (let y = x .busy b in record { slot = y .slot; sent = y .sent; encoder = y .encoder; part = y .part; sizes = y .sizes; width = y .width });
-      idle = x .idle;
-    });
-    spare = v .spare;
-    in-hand = v .in-hand;
-    fdt-busy = λ b. (let y = v .fdt-busy b in record { encoder = y .encoder; sizes = y .sizes; width = y .width });
-    fdt-idle = v .fdt-idle;
-    matched = v .matched;
-  }
-
-  pub agrees-numbered : a .width ≡ s .fdt .tois .width → (u : Setup) → Agrees u s → Agrees u numbered-sender
-  agrees-numbered e u w = record {
-    window = w .window;
-    sizes = w .sizes;
-    object-store = w .object-store;
-    fdt-store = w .fdt-store;
-    width = w .width ∙ sym e;
-    carousel = w .carousel;
-    validity = w .validity;
-  }
-
   pub kept-numbered : (x : Call) (r : Answer) → Valid s → Holds (numbered-sender .fdt) → FdtHolds (numbered-sender .fdt) → a .width ≡ s .fdt .tois .width
       → ((u : Setup) → Agrees u s → step u (desk-of s) x ≡ (r, desk-of numbered-sender)) → Kept s x r numbered-sender
-  kept-numbered x r v h g e m = record { means = m; agrees = agrees-numbered e; valid = valid-numbered v h g }
+  kept-numbered x r v h g e m = record {
+    means = m;
+    agrees = λ u w. agrees-list u s (numbered-list (s .fdt) c a) refl e w;
+    valid = valid-list s (numbered-list (s .fdt) c a) v (record { settings = refl; sent-same = λ j. refl; part = λ j k. refl; sizes = λ j k. refl; current = refl }) h g;
+  }
 
 -- ---- reserve
 

@@ -16,7 +16,7 @@ use Rattle.lifecycle.specs.FileDesc.{pace-said}
 use Rattle.lifecycle.specs.Slots.{slot-at, published-slot}
 use Rattle.lifecycle.specs.Announce.{state-of, queued-of}
 use Rattle.lifecycle.specs.FdtCalls.{files, sends, with-slots, announced, publication-said}
-use Rattle.lifecycle.specs.FdtMeans.{published-file}
+use Rattle.lifecycle.proofs.FdtMeans.{published-file}
 use Rattle.lifecycle.specs.declared.parts.Part.{Part}
 use Rattle.lifecycle.specs.declared.filedesc.FileDesc.{FileDesc}
 use Rattle.lifecycle.specs.declared.slots.Slot.{Slot}

@@ -1,5 +1,4 @@
 -- Why an add is refused: the desk's table is the list's, read off the records.
-use Rattle.sizes.specs.declared.refusal.Refusal.{Refusal}
 use Rattle.sizes.specs.declared.refusal.Refusal.the-variants as Because
 use mathlib.Core.Path.{_≡_, refl, sym, _∙_, ap}
 use mathlib.Core.Bool.{Bool, true, false, not, _&&_, _||_}
@@ -17,7 +16,7 @@ use Rattle.lifecycle.specs.Setup.{Setup, bad-blocks}
 use Rattle.lifecycle.specs.Parts.{shares, past-store}
 use Rattle.lifecycle.specs.Slots.{no-slot}
 use Rattle.lifecycle.specs.FdtCalls.{used, own-of, bad-part-of, refusal, added-of}
-use Rattle.lifecycle.specs.FdtMeans.{unknown, full}
+use Rattle.lifecycle.proofs.FdtMeans.{unknown, full}
 use Rattle.lifecycle.specs.declared.parts.Part.{Part}
 use Rattle.lifecycle.specs.declared.slots.Slot.{Slot}
 use Rattle.lifecycle.specs.declared.fdt.Own.{Own}

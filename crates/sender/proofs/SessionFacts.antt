@@ -9,10 +9,10 @@ use Rattle.sizes.specs.Limits.{largest-window}
 use Rattle.sizes.proofs.Tables.{inside}
 use Rattle.sizes.proofs.AllocatorViews.{freed-view}
 use Rattle.lifecycle.specs.Slots.{no-slot, slot-at, queue-startable}
-use Rattle.lifecycle.specs.FdtCalls.{waiting, sends, used, taken-at, taken-of, goes-back, back-of, let-go-of, done-of}
+use Rattle.lifecycle.specs.FdtCalls.{file-at, waiting, sends, used, taken-at, taken-of, goes-back, back-of, let-go-of, done-of}
 use Rattle.lifecycle.specs.FdtCalls.{Valid as ListValid}
 use Rattle.lifecycle.specs.FdtCalls.{started-slot, ended-slot}
-use Rattle.lifecycle.specs.FdtMeans.{file-at, Seen, Takes, nothing, takes, Ends, idle, back, gone}
+use Rattle.lifecycle.proofs.FdtMeans.{Seen, Takes, nothing, takes, Ends, idle, back, gone}
 use Rattle.lifecycle.specs.declared.filedesc.FileDesc.{FileDesc}
 use Rattle.lifecycle.specs.declared.slots.Slot.{Slot}
 use Rattle.lifecycle.specs.declared.fdt.Fdt.{Fdt}

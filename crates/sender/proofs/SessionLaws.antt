@@ -25,7 +25,7 @@ use Rattle.lifecycle.specs.Slots.{no-slot, slot-at, holds-byte, published-slot}
 use Rattle.lifecycle.specs.Announce.{fdt-rule, next-of, bad-fdt-of, waits-of}
 use Rattle.lifecycle.specs.FdtCalls.{sends, used, completed-of, reserved-of, released-of, own-of, bad-part-of, refusal, added-of, listed-place, removed-of, triggered-of, taken-of, done-of, publish-of, next-fdt-of, fdt-done-of}
 use Rattle.lifecycle.specs.FdtCalls.{Valid as ListValid}
-use Rattle.lifecycle.specs.FdtMeans.{Seen, ListAdds, refused, admits, unknown, full, Removal, nobody, sent, waited, Takes, nothing, takes, is-taken, Ends, idle, back, gone}
+use Rattle.lifecycle.proofs.FdtMeans.{Seen, ListAdds, refused, admits, unknown, full, Removal, nobody, sent, waited, Takes, nothing, takes, is-taken, Ends, idle, back, gone}
 use Rattle.lifecycle.specs.declared.parts.Part.{Part}
 use Rattle.lifecycle.specs.declared.filedesc.Time.{Time}
 use Rattle.lifecycle.specs.declared.filedesc.Life.{Life}
@@ -143,9 +143,9 @@ module _ (f : Fdt) (h : Holds f) where
   holds-removed t = go (removed-of t f) (valid-removed f (h .valid) t) (removed-cases t f (h .valid))
     where
       go : (r : Told) → ListValid (r .fdt) → Removal t f r → Holds (r .fdt)
-      go r v (nobody a q e) = subst (λ (x : Told). Holds (x .fdt)) (sym e) h
-      go r v (sent k li s q y c w) = holds-seen f h (r .fdt) v w (λ u. h .good k (used-sends (slot-at (f .slots) k) s))
-      go r v (waited k n li o q y c w) = holds-seen f h (r .fdt) v w good-free
+      go r v (nobody c) = subst (λ (x : Told). Holds (x .fdt)) (sym (c .unchanged)) h
+      go r v (sent k c) = holds-seen f h (r .fdt) v (c .view) (λ u. h .good k (used-sends (slot-at (f .slots) k) (c .is-sent)))
+      go r v (waited k n c) = holds-seen f h (r .fdt) v (c .view) good-free
 
   pub holds-triggered : (t : ℕ) (start : Time) → Holds (triggered-of t start f .fdt)
   unfolding triggered-of

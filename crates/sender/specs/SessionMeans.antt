@@ -12,8 +12,7 @@ use Rattle.lifecycle.specs.Lifecycle.{Carousel}
 use Rattle.lifecycle.specs.Setup.{Setup}
 use Rattle.lifecycle.specs.Slots.{slot-at, published-slot}
 use Rattle.lifecycle.specs.Announce.{state-of}
-use Rattle.lifecycle.specs.FdtCalls.{files, sends}
-use Rattle.lifecycle.specs.FdtMeans.{file-at}
+use Rattle.lifecycle.specs.FdtCalls.{file-at, files, sends}
 use Rattle.lifecycle.specs.declared.slots.Slot.{Slot}
 use Rattle.lifecycle.specs.declared.fdt.Settings.{Settings}
 use Rattle.lifecycle.specs.declared.fdt.Fdt.{Fdt}
