@@ -133,14 +133,14 @@ module _ (z : Sizes) (l : ℕ) where
   unfolding bad-blocks
   blocks-counted e = rw e
 
--- what admitted sizes tell
+-- what refusal 4 leaves: E, B and the block count are in their ranges
 pub record SizesTold (z : Sizes) (l : ℕ) : Type 0 where
   pub sizes : SoundSizes z
   pub blocks : blocks-of z l .blocks ≤ most-blocks
 
-pub admitted : (z : Sizes) (l : ℕ) → bad-blocks z l ≡ false → SizesTold z l
+pub blocks-told : (z : Sizes) (l : ℕ) → bad-blocks z l ≡ false → SizesTold z l
 unfolding bad-blocks
-admitted z l e =
+blocks-told z l e =
     record {
       sizes = sizes-told z (not-false (sound-sizes z) (or-left (not (sound-sizes z)) (ltb most-blocks (blocks-of z l .blocks)) e));
       blocks = ltb-false most-blocks (blocks-of z l .blocks) (or-right (not (sound-sizes z)) (ltb most-blocks (blocks-of z l .blocks)) e);

@@ -16,7 +16,7 @@ use Rattle.sizes.proofs.Tests.{none≢some}
 use Rattle.sizes.proofs.Arithmetic.{below-or}
 use Rattle.sizes.proofs.Tables.{tally-le}
 use Rattle.sizes.proofs.PartitionLaws.{parted, empty-exactly}
-use Rattle.lifecycle.proofs.SetupLaws.{admitted}
+use Rattle.lifecycle.proofs.SetupLaws.{blocks-told}
 use Rattle.lifecycle.proofs.FdtFacts.{if-on}
 use Rattle.sender.specs.EncoderCalls.{opened-blocks, is-empty, Sound, Valid, has-room, one-opened, filled-of, place-of, stuck, without-of, drained-count, settled, ready-of}
 use Rattle.sender.specs.declared.blockencoder.Content.{Content}
@@ -43,7 +43,7 @@ pub some-symbol : (c : Content) → Sound c → (k : Sbn) → k .0 < c .partitio
 some-symbol c s k = subst (λ (p : Partition). k .0 < p .blocks → 1 ≤ symbols-in p k) (sym (s .cut)) (λ h.
     let z = c .sizes in
     let l = c .part .size in
-    let t = admitted z l (s .sizes) .sizes in
+    let t = blocks-told z l (s .sizes) .sizes in
     let l0 : 0 < l = ⊎-elim (λ g. g) (λ g. absurd (omega (arith, empty-exactly (z .b) l (z .e) .1 (inr (inr (omega arith))) .blocks))) (below-or 0 l) in
     parted (z .b) l (z .e) (t .block .0) (t .symbol .0) .none-empty l0 k)
 

@@ -10,7 +10,7 @@ use Rattle.sizes.specs.Partition.{sbn, symbols-of, symbols-in, first-symbol}
 use Rattle.sizes.specs.PartitionPromises.{Parted}
 use Rattle.sizes.proofs.Arithmetic.{one-more}
 use Rattle.sizes.proofs.PartitionLaws.{parted, parted-bytes, rises}
-use Rattle.lifecycle.proofs.SetupLaws.{SizesTold, admitted}
+use Rattle.lifecycle.proofs.SetupLaws.{SizesTold, blocks-told}
 use Rattle.sender.specs.EncoderCalls.{Sound, Inside, is-empty, offset-of}
 use Rattle.sender.specs.declared.block.Open.{Open}
 use Rattle.sender.specs.declared.blockencoder.Content.{Content}
@@ -23,7 +23,7 @@ module _ (c : Content) (s : Sound c) where
   e = c .sizes .e
 
   pub told : SizesTold (c .sizes) l
-  told = admitted (c .sizes) l (s .sizes)
+  told = blocks-told (c .sizes) l (s .sizes)
 
   pub cut-up : Parted (c .sizes .b) l e (c .partition)
   cut-up = subst (Parted (c .sizes .b) l e) (sym (s .cut)) (parted (c .sizes .b) l e (told .sizes .block .0) (told .sizes .symbol .0))
