@@ -20,8 +20,8 @@ use Rattle.sizes.proofs.Tests.{none≢some, or-left, or-right}
 use Rattle.lifecycle.specs.Setup.{bad-blocks}
 use Rattle.lifecycle.specs.Slots.{no-slot, slot-at, is-free, queue-startable, published-slot}
 use Rattle.lifecycle.specs.Announce.{state-of, draft-given, queued-of, bad-fdt-of}
-use Rattle.lifecycle.specs.FdtCalls.{waiting, files, sends, Valid, with-tois, with-slots, with-objects, reserved-of, released-of, own-of, bad-part-of, put-of, named-of, fresh-of, numbered-of, added-of, listed-place, is-added-of, unlisted-of, freed-of, removed-of, triggered-of, taken-at, taken-of, goes-back, back-of, let-go-of, done-of, announced, publish-of, real-draft, draft-test-of, opening-fdt}
-use Rattle.lifecycle.specs.FdtMeans.{Removal, nobody, sent, waited, published-file}
+use Rattle.lifecycle.specs.FdtCalls.{waiting, files, sends, Valid, with-tois, with-objects, reserved-of, released-of, own-of, bad-part-of, put-of, named-of, fresh-of, numbered-of, added-of, listed-place, is-added-of, unlisted-of, freed-of, removed-of, triggered-of, taken-at, taken-of, goes-back, back-of, let-go-of, done-of, announced, publish-of, real-draft, draft-test-of, opening-fdt}
+use Rattle.lifecycle.proofs.FdtMeans.{Removal, nobody, sent, waited, published-file}
 use Rattle.lifecycle.specs.declared.parts.Part.{Part}
 use Rattle.lifecycle.specs.declared.filedesc.Time.{Time}
 use Rattle.lifecycle.specs.declared.slots.Slot.{Slot}
@@ -35,8 +35,6 @@ use Rattle.lifecycle.specs.declared.fdt.Named.{Named}
 use Rattle.lifecycle.specs.declared.fdt.Named.the-variants as NamedV
 use Rattle.lifecycle.specs.declared.fdt.Request.{Request}
 use Rattle.lifecycle.specs.declared.fdt.Added.{Added}
-use Rattle.lifecycle.specs.declared.fdt.Reserved.{Reserved}
-use Rattle.lifecycle.specs.declared.fdt.Released.{Released}
 use Rattle.lifecycle.specs.declared.fdt.Told.{Told}
 use Rattle.lifecycle.specs.declared.fdt.Taken.{Taken}
 use Rattle.lifecycle.specs.declared.fdt.Publication.the-variants as PublicationV
@@ -74,8 +72,8 @@ pub record SameNumbers (f r : Fdt) : Type 0 where
   pub loose : Alloc.loose (r .tois) ≡ Alloc.loose (f .tois)
 
 module _ (f : Fdt) where
-  unchanged : ObjectsOnly f f
-  unchanged = record { settings = refl; complete = refl; announcer = refl; width = refl }
+  nothing-changed : ObjectsOnly f f
+  nothing-changed = record { settings = refl; complete = refl; announcer = refl; width = refl }
 
   -- other slots, another queue, and other numbers of the same width
   pub objects-only : (a : ToiAllocator) (l : List Slot) (q : List ℕ) (n : ℕ) → a .width ≡ f .tois .width → ObjectsOnly f (with-objects f a l q n)
@@ -103,40 +101,40 @@ module _ (f : Fdt) where
   unfolding numbered-of named-of fresh-of put-of
   numbered-keeps q z (NamedV.Toi t) =
       if-on (λ (r : Added). ObjectsOnly f (r .fdt)) (has t (Alloc.loose (f .tois)))
-      (λ l. maybe-on (λ (r : Added). ObjectsOnly f (r .fdt)) (place is-free (f .slots)) (λ e. unchanged) (λ k e. objects-only _ _ _ _ (claimed-width (f .tois) t)))
-      (λ l. unchanged)
+      (λ l. maybe-on (λ (r : Added). ObjectsOnly f (r .fdt)) (place is-free (f .slots)) (λ e. nothing-changed) (λ k e. objects-only _ _ _ _ (claimed-width (f .tois) t)))
+      (λ l. nothing-changed)
   numbered-keeps q z NamedV.Anew =
-      maybe-on (λ (r : Added). ObjectsOnly f (r .fdt)) (place is-free (f .slots)) (λ e. unchanged)
-      (λ k e. if-on (λ (r : Added). ObjectsOnly f (r .fdt)) (ltb (f .tois .entered) toi-entries) (λ l. objects-only _ _ _ _ (allocated-width (f .tois) false)) (λ l. unchanged))
+      maybe-on (λ (r : Added). ObjectsOnly f (r .fdt)) (place is-free (f .slots)) (λ e. nothing-changed)
+      (λ k e. if-on (λ (r : Added). ObjectsOnly f (r .fdt)) (ltb (f .tois .entered) toi-entries) (λ l. objects-only _ _ _ _ (allocated-width (f .tois) false)) (λ l. nothing-changed))
 
   pub added-keeps : (q : Request) (named : Named) → ObjectsOnly f (added-of f q named .fdt)
   unfolding added-of
   added-keeps q named =
       let z = own-of (q .own) (f .settings .sizes) in
-      if-on (λ (r : Added). ObjectsOnly f (r .fdt)) (f .complete) (λ e. unchanged) (λ e.
-      if-on (λ (r : Added). ObjectsOnly f (r .fdt)) (bad-blocks z (q .part .size)) (λ e. unchanged) (λ e.
-      if-on (λ (r : Added). ObjectsOnly f (r .fdt)) (bad-part-of f (q .part)) (λ e. unchanged) (λ e. numbered-keeps q z named)))
+      if-on (λ (r : Added). ObjectsOnly f (r .fdt)) (f .complete) (λ e. nothing-changed) (λ e.
+      if-on (λ (r : Added). ObjectsOnly f (r .fdt)) (bad-blocks z (q .part .size)) (λ e. nothing-changed) (λ e.
+      if-on (λ (r : Added). ObjectsOnly f (r .fdt)) (bad-part-of f (q .part)) (λ e. nothing-changed) (λ e. numbered-keeps q z named)))
 
   -- remove
   pub removed-keeps : (t : ℕ) → ObjectsOnly f (removed-of t f .fdt)
   unfolding removed-of unlisted-of freed-of
-  removed-keeps t = maybe-on (λ (r : Told). ObjectsOnly f (r .fdt)) (listed-place t f) (λ e. unchanged)
+  removed-keeps t = maybe-on (λ (r : Told). ObjectsOnly f (r .fdt)) (listed-place t f) (λ e. nothing-changed)
       (λ k e. if-on (ObjectsOnly f) (sends (slot-at (f .slots) k)) (λ s. objects-only _ _ _ _ refl)
-      (λ s. maybe-on (ObjectsOnly f) (place (λ j. eqb j k) (waiting f)) (λ q. unchanged) (λ n q. objects-only _ _ _ _ (dropped-width (f .tois) false t))))
+      (λ s. maybe-on (ObjectsOnly f) (place (λ j. eqb j k) (waiting f)) (λ q. nothing-changed) (λ n q. objects-only _ _ _ _ (dropped-width (f .tois) false t))))
 
   pub removed-numbers : (t : ℕ) → Valid f → SameNumbers f (removed-of t f .fdt)
   removed-numbers t v = by (removed-of t f) (removed-cases t f v)
     where
       by : (r : Told) → Removal t f r → SameNumbers f (r .fdt)
-      by r (nobody a q e) = record { next = ap (λ (x : Told). x .fdt .tois .next) e; loose = ap (λ (x : Told). Alloc.loose (x .fdt .tois)) e }
-      by r (sent k li s q y c w) = record { next = ap (λ (a : ToiAllocator). a .next) c; loose = ap Alloc.loose c }
-      by r (waited k n li h q y c w) = record { next = c .next-same; loose = c .loose-same }
+      by r (nobody h) = record { next = ap (λ (x : Told). x .fdt .tois .next) (h .unchanged); loose = ap (λ (x : Told). Alloc.loose (x .fdt .tois)) (h .unchanged) }
+      by r (sent k h) = record { next = ap (λ (a : ToiAllocator). a .next) (h .tois); loose = ap Alloc.loose (h .tois) }
+      by r (waited k n h) = record { next = h .number .next-same; loose = h .number .loose-same }
 
   -- trigger
   pub triggered-keeps : (t : ℕ) (start : Time) → ObjectsOnly f (triggered-of t start f .fdt)
   unfolding triggered-of
-  triggered-keeps t start = maybe-on (λ (r : Told). ObjectsOnly f (r .fdt)) (listed-place t f) (λ e. unchanged)
-      (λ k e. if-on (ObjectsOnly f) (sends (slot-at (f .slots) k)) (λ s. unchanged) (λ s. objects-only _ _ _ _ refl))
+  triggered-keeps t start = maybe-on (λ (r : Told). ObjectsOnly f (r .fdt)) (listed-place t f) (λ e. nothing-changed)
+      (λ k e. if-on (ObjectsOnly f) (sends (slot-at (f .slots) k)) (λ s. nothing-changed) (λ s. objects-only _ _ _ _ refl))
 
   pub triggered-numbers : (t : ℕ) (start : Time) → SameNumbers f (triggered-of t start f .fdt)
   unfolding triggered-of
@@ -146,7 +144,7 @@ module _ (f : Fdt) where
   -- a session takes an object, and is done with it
   pub taken-keeps : (p now : ℕ) → ObjectsOnly f (taken-of p now f .fdt)
   unfolding taken-of taken-at
-  taken-keeps p now = maybe-on (λ (r : Taken). ObjectsOnly f (r .fdt)) (place (queue-startable (f .slots) p now) (waiting f)) (λ e. unchanged) (λ n e. objects-only _ _ _ _ refl)
+  taken-keeps p now = maybe-on (λ (r : Taken). ObjectsOnly f (r .fdt)) (place (queue-startable (f .slots) p now) (waiting f)) (λ e. nothing-changed) (λ n e. objects-only _ _ _ _ refl)
 
   pub done-keeps : (now k : ℕ) → ObjectsOnly f (done-of now k f)
   unfolding done-of back-of let-go-of
@@ -154,7 +152,7 @@ module _ (f : Fdt) where
       let y = slot-at (f .slots) k in
       if-on (ObjectsOnly f) (sends y)
       (λ s. if-on (ObjectsOnly f) (goes-back now y) (λ g. objects-only _ _ _ _ refl) (λ g. objects-only _ _ _ _ (dropped-width (f .tois) false (y .file .toi))))
-      (λ s. unchanged)
+      (λ s. nothing-changed)
 
 -- ---- what an add asks for
 

@@ -19,7 +19,7 @@ use Rattle.lifecycle.specs.FileDesc.{with-life, reset-life}
 use Rattle.lifecycle.specs.Slots.{no-slot, slot-at, holds-byte, published-slot}
 use Rattle.lifecycle.specs.Announce.{fdt-rule, next-of}
 use Rattle.lifecycle.specs.FdtCalls.{sends, used, Valid, with-slots, reserved-of, released-of, own-of, bad-part-of, new-slot, refusal, added-of, listed-place, removed-of, triggered-of, taken-of, done-of, publish-of, next-fdt-of, fdt-done-of}
-use Rattle.lifecycle.specs.FdtMeans.{Seen, ListAdds, refused, admits, unknown, full, Removal, nobody, sent, waited, Takes, nothing, takes, Ends, idle, back, gone}
+use Rattle.lifecycle.proofs.FdtMeans.{Seen, ListAdds, refused, admits, unknown, full, Removal, nobody, sent, waited, Takes, nothing, takes, Ends, idle, back, gone}
 use Rattle.lifecycle.specs.declared.parts.Part.{Part}
 use Rattle.lifecycle.specs.declared.filedesc.Time.{Time}
 use Rattle.lifecycle.specs.declared.filedesc.Life.{Life}
@@ -101,9 +101,9 @@ module _ (P : FileDesc → Type 0) (lives : (o : FileDesc) (x : Life) → P o �
   removed-held v t = by (removed-of t f) (removed-cases t f v)
     where
       by : (r : Told) → Removal t f r → EachHeld P (r .fdt)
-      by r (nobody a q e) = subst (λ (x : Told). EachHeld P (x .fdt)) (sym e) h
-      by r (sent k li s q y c w) = seen-held (r .fdt) w (λ u. h k (used-sends (slot-at (f .slots) k) s))
-      by r (waited k n li o q y c w) = seen-held (r .fdt) w free-held
+      by r (nobody c) = subst (λ (x : Told). EachHeld P (x .fdt)) (sym (c .unchanged)) h
+      by r (sent k c) = seen-held (r .fdt) (c .view) (λ u. h k (used-sends (slot-at (f .slots) k) (c .is-sent)))
+      by r (waited k n c) = seen-held (r .fdt) (c .view) free-held
 
   pub triggered-held : (t : ℕ) (start : Time) → EachHeld P (triggered-of t start f .fdt)
   unfolding triggered-of

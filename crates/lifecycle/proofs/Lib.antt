@@ -3,6 +3,7 @@ pub mod SetupLaws
 pub mod PartLaws
 pub mod FileDescLaws
 pub mod AnnounceLaws
+pub mod FdtMeans
 pub mod FdtFacts
 pub mod FdtLaws
 pub mod FdtValid
@@ -10,6 +11,7 @@ pub mod FdtViews
 pub mod FdtByNumber
 pub mod FdtKeeps
 pub mod TakesKeep
+pub mod AnnounceSends
 pub mod FdtSearches
 pub mod FdtAdds
 pub mod HeldKeep

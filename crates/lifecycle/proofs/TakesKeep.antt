@@ -10,7 +10,7 @@ use Rattle.lifecycle.specs.Lifecycle.{finished, expired, may-start}
 use Rattle.lifecycle.specs.FileDesc.{plan-of, life-of, started-life, startable-file}
 use Rattle.lifecycle.specs.Slots.{slot-at, queue-startable}
 use Rattle.lifecycle.specs.FdtCalls.{waiting, sends, Valid, started-slot, taken-at, taken-of, goes-back, done-of}
-use Rattle.lifecycle.specs.FdtMeans.{Ends, idle, back, gone}
+use Rattle.lifecycle.proofs.FdtMeans.{Ends, idle, back, gone}
 use Rattle.lifecycle.specs.declared.filedesc.FileDesc.{FileDesc}
 use Rattle.lifecycle.specs.declared.slots.Slot.{Slot}
 use Rattle.lifecycle.specs.declared.fdt.Fdt.{Fdt}

@@ -20,7 +20,6 @@ pub mod DeskListed
 pub mod DeskChanges
 pub mod DeskByNumber
 pub mod DeskPublish
-pub mod DeskLists
 pub mod DeskRefusals
 pub mod DeskAdds
 pub mod DeskRuns

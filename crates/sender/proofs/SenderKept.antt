@@ -2,7 +2,7 @@
 use Rattle.sizes.specs.declared.refusal.Refusal.the-variants as Because
 use mathlib.Core.Path.{_≡_, refl, sym, _∙_, ap, subst}
 use mathlib.Core.Bool.{true, false, true≢false}
-use mathlib.Core.Option.{Option, none, some}
+use mathlib.Core.Option.{none}
 use mathlib.Core.List.{List, [], _∷_}
 use Prim.Native.Nat.{ℕ, zero, suc, _<_, _≤_}
 use native.Mathlib.Omega.{arith}
@@ -11,6 +11,7 @@ use lib.ListN.{length, getD, set}
 use Rattle.lifecycle.specs.Slots.{slot-at}
 use Rattle.sizes.specs.Words.{any, given}
 use Rattle.lifecycle.proofs.FdtFacts.{if-on}
+use Rattle.lifecycle.proofs.FdtByNumber.{given-none}
 use Rattle.lifecycle.specs.FdtCalls.{draft-said, real-draft, draft-test-of, is-added-of, transfers-said, transfers-of, reserved-of, released-of, added-of, removed-of, triggered-of, completed-of}
 use Rattle.lifecycle.specs.declared.parts.Part.{Part}
 use Rattle.lifecycle.specs.declared.filedesc.Time.{Time}
@@ -23,11 +24,11 @@ use Rattle.lifecycle.specs.declared.fdt.Transfers.{Transfers}
 use Rattle.definition.specs.Desk as Def
 use Rattle.sender.specs.SessionCalls.{Holds, idle-of, ran-of}
 use Rattle.sender.specs.FdtSessionCalls.{FdtHolds, fdt-ran-of}
-use Rattle.sender.specs.SenderCalls.{Valid, Kept, working, with-list, admission-said, has-priority, request-of, reserving-of, releasing-of, removing-of, prompting-of, completing-of, publishing-of, adding-of, answer-of, running-of, draft-answer, fdt-running-by, fdt-running-of, RunsFdt, RunsFile, Reserves, Releases, Removes, Prompts, Lists, Totals, Completes, Publishes, Adds}
+use Rattle.sender.specs.SenderCalls.{Valid, Kept, working, with-list, has-priority, request-of, reserving-of, releasing-of, removing-of, prompting-of, completing-of, publishing-of, adding-of, answer-of, running-of, draft-answer, fdt-running-by, fdt-running-of, RunsFdt, RunsFile, Reserves, Releases, Removes, Prompts, Lists, Totals, Completes, Publishes, Adds}
 use Rattle.sender.specs.declared.sender.Sender.{Sender}
 use Rattle.sender.specs.declared.sender.Object.{Object}
 use Rattle.sender.specs.declared.sender.Adding.{Adding}
-use Rattle.sender.specs.declared.sender.AddAnswer.the-variants as AddV
+use Rattle.lifecycle.specs.declared.fdt.Admission.the-variants as AdmissionV
 use Rattle.sender.specs.declared.sender.RunAnswer.the-variants as RunV
 use Rattle.sender.specs.declared.sender.Running.{Running}
 use Rattle.sender.specs.declared.sendersession.SenderSession.{SenderSession}
@@ -104,12 +105,12 @@ module _ (s : Sender) (v : Valid s) where
       admits = holds-added (s .fdt) (v .holds) (v .object-store) (request-of o) named
 
 -- the two cases of an add
-pub add-refused : (o : Object) (named : Named) (s : Sender) → any (has-priority (o .priority)) (working s) ≡ false → adding-of o named s ≡ record { answer = AddV.Refused Because.NoPriority; sender = s }
+pub add-refused : (o : Object) (named : Named) (s : Sender) → any (has-priority (o .priority)) (working s) ≡ false → adding-of o named s ≡ record { answer = AdmissionV.Refused Because.NoPriority; sender = s }
 unfolding adding-of
 add-refused o named s e = rw e
 
 pub add-goes : (o : Object) (named : Named) (s : Sender) → any (has-priority (o .priority)) (working s) ≡ true
-    → adding-of o named s ≡ record { answer = admission-said (added-of (s .fdt) (request-of o) named .answer); sender = with-list s (added-of (s .fdt) (request-of o) named .fdt) }
+    → adding-of o named s ≡ record { answer = added-of (s .fdt) (request-of o) named .answer; sender = with-list s (added-of (s .fdt) (request-of o) named .fdt) }
 unfolding adding-of
 add-goes o named s e = rw e
 
@@ -144,10 +145,6 @@ pub read-session : (s : Sender) → Valid s → (i : ℕ) (z : SenderSession) �
 read-session s v i z h = let a = v .few in let b = v .long in get-same (s .sessions) i z (idle-of 0) (omega arith)
 
 -- ---- a run of the FDT session
-
-given-none : {A : Type 0} (o : Option A) → given o ≡ false → o ≡ none
-given-none none e = refl
-given-none (some n) e = absurd (true≢false e)
 
 -- a draft that is refused
 pub fdt-refused : (now : ℕ) (draft : Draft) (s : Sender) (t : DraftTest) → draft-said t ≡ draft-test-of (real-draft draft) (s .fdt) → given (draft-said t) ≡ true

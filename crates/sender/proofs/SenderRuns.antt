@@ -16,7 +16,7 @@ use Rattle.lifecycle.specs.Setup.{sound}
 use Rattle.lifecycle.specs.Setup.{Setup as DefSetup}
 use Rattle.lifecycle.specs.Slots.{slot-at}
 use Rattle.lifecycle.specs.FdtCalls.{with-tois, added-of, own-of, publication-said, real-draft, draft-test-of}
-use Rattle.lifecycle.specs.FdtMeans.{ListAdds}
+use Rattle.lifecycle.proofs.FdtMeans.{ListAdds}
 use Rattle.lifecycle.specs.declared.parts.Part.{Part}
 use Rattle.lifecycle.specs.declared.announce.Draft.{Draft}
 use Rattle.lifecycle.specs.declared.fdt.Added.{Added}
@@ -35,7 +35,7 @@ use Rattle.definition.proofs.Reachable as Reached
 use Rattle.definition.proofs.OnlyThese.{demand-3-sound}
 use Rattle.sender.specs.SessionCalls.{idle-of, ran-of}
 use Rattle.sender.specs.FdtSessionCalls.{fdt-ran-of}
-use Rattle.sender.specs.SenderCalls.{desk-of, Agrees, Valid, Kept, working, with-list, has-priority, request-of, admission-said, alloc-answer, add-answer, file-answer, fdt-answer, answer-of, reserving-of, releasing-of, adding-of, publishing-of, running-of, fdt-running-by, fdt-running-of}
+use Rattle.sender.specs.SenderCalls.{desk-of, Agrees, Valid, Kept, working, with-list, has-priority, request-of, alloc-answer, add-answer, file-answer, fdt-answer, answer-of, reserving-of, releasing-of, adding-of, publishing-of, running-of, fdt-running-by, fdt-running-of}
 use Rattle.sender.specs.SetupCalls.{setup-said, opening-of}
 use Rattle.sender.specs.SenderRuns.{Call, call-said, answered, played, RefusedKeeps, code-calls, code-answers, code-smooth, CodeNumbers, Promised}
 use Rattle.sender.specs.declared.sendersession.Served.{Served}
@@ -157,9 +157,9 @@ module _ (s : Sender) where
       (λ h e. refl) (λ i h e. absurd (false≢true e)))
 
   refused-added : (o : Object) (named : Named) (r : Added) → ListAdds (s .fdt) (request-of o) (own-of (request-of o .own) (s .fdt .settings .sizes)) named r
-      → refuses (add-answer (admission-said (r .answer))) → with-list s (r .fdt) ≡ s
+      → refuses (add-answer (r .answer)) → with-list s (r .fdt) ≡ s
   refused-added o named r (ListAdds.refused a h) e = ap (λ (x : Added). with-list s (x .fdt)) h
-  refused-added o named r (ListAdds.admits k t h) e = absurd (false≢true (sym (ap (λ x. given (refusal-in (add-answer (admission-said x)))) (h .answer)) ∙ e))
+  refused-added o named r (ListAdds.admits k t h) e = absurd (false≢true (sym (ap (λ x. given (refusal-in (add-answer x))) (h .answer)) ∙ e))
 
   refused-add : Valid s → (o : Object) (named : Named) → refuses (add-answer (adding-of o named s .answer)) → adding-of o named s .sender ≡ s
   unfolding adding-of

@@ -7,9 +7,8 @@ use lib.Dec.{eqb}
 use Rattle.sizes.specs.Limits.{largest-window}
 use Rattle.sizes.specs.Allocator as Alloc
 use Rattle.lifecycle.specs.Slots.{slot-at}
-use Rattle.lifecycle.specs.FdtCalls.{sends, taken-of, done-of}
+use Rattle.lifecycle.specs.FdtCalls.{file-at, sends, taken-of, done-of}
 use Rattle.lifecycle.specs.FdtCalls.{Valid as ListValid}
-use Rattle.lifecycle.specs.FdtMeans.{file-at}
 use Rattle.lifecycle.specs.declared.fdt.Fdt.{Fdt}
 use Rattle.lifecycle.proofs.FdtKeeps.{ObjectsOnly, SameNumbers, taken-keeps, done-keeps}
 use Rattle.lifecycle.proofs.TakesKeep.{taken-numbers, done-numbers}

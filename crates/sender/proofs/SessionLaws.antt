@@ -14,7 +14,7 @@ use Rattle.lifecycle.specs.Slots.{no-slot, slot-at}
 use Rattle.lifecycle.specs.Announce.{waits-of}
 use Rattle.lifecycle.specs.FdtCalls.{sends, completed-of, reserved-of, released-of, added-of, removed-of, triggered-of, taken-of, done-of, publish-of, next-fdt-of, fdt-done-of}
 use Rattle.lifecycle.specs.FdtCalls.{Valid as ListValid}
-use Rattle.lifecycle.specs.FdtMeans.{is-taken}
+use Rattle.lifecycle.proofs.FdtMeans.{is-taken}
 use Rattle.lifecycle.specs.declared.parts.Part.{Part}
 use Rattle.lifecycle.specs.declared.filedesc.Time.{Time}
 use Rattle.lifecycle.specs.declared.filedesc.Life.{Life}

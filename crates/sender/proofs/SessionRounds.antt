@@ -14,8 +14,8 @@ use Rattle.lifecycle.specs.Setup.{Setup}
 use Rattle.lifecycle.specs.FileDesc.{pace-said, ticked-of}
 use Rattle.lifecycle.specs.Slots.{slot-at}
 use Rattle.lifecycle.specs.Announce.{waits-of}
-use Rattle.lifecycle.specs.FdtCalls.{files, sends, goes-back, ended-file, done-of}
-use Rattle.lifecycle.specs.FdtMeans.{file-at, Ends, idle, back, gone}
+use Rattle.lifecycle.specs.FdtCalls.{file-at, files, sends, goes-back, ended-file, done-of}
+use Rattle.lifecycle.proofs.FdtMeans.{Ends, idle, back, gone}
 use Rattle.lifecycle.specs.declared.slots.Slot.{Slot}
 use Rattle.lifecycle.specs.declared.fdt.Fdt.{Fdt}
 use Rattle.lifecycle.proofs.FileDescLaws.{life-done, ticked-view}

@@ -11,10 +11,9 @@ use Rattle.sizes.proofs.Lists.{at-map}
 use Rattle.sizes.proofs.Tables.{find-map, drop-map}
 use Rattle.lifecycle.specs.Lifecycle.{is-last}
 use Rattle.lifecycle.specs.FileDesc.{plan-of, life-of, startable-file}
-use Rattle.lifecycle.specs.FdtCalls.{waiting, files}
+use Rattle.lifecycle.specs.FdtCalls.{file-at, waiting, files}
 use Rattle.lifecycle.specs.FdtCalls.{Valid as ListValid}
 use Rattle.lifecycle.specs.FdtCalls.{started-slot}
-use Rattle.lifecycle.specs.FdtMeans.{file-at}
 use Rattle.lifecycle.specs.declared.filedesc.FileDesc.{FileDesc}
 use Rattle.lifecycle.specs.declared.slots.Slot.{Slot}
 use Rattle.lifecycle.specs.declared.fdt.Fdt.{Fdt}

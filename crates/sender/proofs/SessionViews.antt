@@ -15,9 +15,9 @@ use Rattle.lifecycle.specs.Setup.{Setup}
 use Rattle.lifecycle.specs.FileDesc.{startable-file}
 use Rattle.lifecycle.specs.Slots.{no-slot, slot-at}
 use Rattle.lifecycle.specs.Announce.{waits-of}
-use Rattle.lifecycle.specs.FdtCalls.{files, sends, taken-of}
+use Rattle.lifecycle.specs.FdtCalls.{file-at, files, sends, taken-of}
 use Rattle.lifecycle.specs.FdtCalls.{started-slot}
-use Rattle.lifecycle.specs.FdtMeans.{file-at, Waits, Seen, Takes, nothing, takes}
+use Rattle.lifecycle.proofs.FdtMeans.{Waits, Seen, Takes, nothing, takes}
 use Rattle.lifecycle.specs.declared.slots.Slot.{Slot}
 use Rattle.lifecycle.specs.declared.slots.Place.{Place}
 use Rattle.lifecycle.specs.declared.fdt.Fdt.{Fdt}

@@ -8,8 +8,7 @@ use Rattle.sizes.specs.Limits.{object-slots}
 use Rattle.lifecycle.specs.Lifecycle.{Carousel}
 use Rattle.lifecycle.specs.Slots.{slot-at}
 use Rattle.lifecycle.specs.Announce.{state-of}
-use Rattle.lifecycle.specs.FdtCalls.{files, sends}
-use Rattle.lifecycle.specs.FdtMeans.{file-at}
+use Rattle.lifecycle.specs.FdtCalls.{file-at, files, sends}
 use Rattle.lifecycle.specs.declared.fdt.Settings.{Settings}
 use Rattle.lifecycle.specs.declared.fdt.Fdt.{Fdt}
 use Rattle.definition.specs.FdtSession as DefFdt
