@@ -5,7 +5,6 @@ pub mod ApartExamples
 pub mod Refused
 pub mod RefusalTables
 pub mod Runs
-pub mod Continued
 pub mod Everywhere
 pub mod Rounds
 pub mod FileRounds

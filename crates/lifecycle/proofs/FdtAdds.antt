@@ -4,7 +4,6 @@ use mathlib.Core.Bool.{Bool, true, false, not, _||_}
 use mathlib.Core.Option.{Option, none, some}
 use mathlib.Core.List.{[], _∷_, _++_}
 use Prim.Native.Nat.{ℕ}
-use native.Mathlib.Omega.{arith}
 use lib.Dec.{ltb}
 use borrow.Author.Tests.{ltb-true}
 use Rattle.sizes.specs.Words.{if_then_else_, maybe, given, has, place, first-of}
@@ -19,7 +18,7 @@ use Rattle.lifecycle.specs.Setup.{bad-blocks}
 use Rattle.lifecycle.specs.Slots.{is-free}
 use Rattle.lifecycle.specs.FdtCalls.{files, waits, Valid, with-tois, own-of, bad-part-of, put-of, refuses, refusal, named-of, fresh-of, numbered-of, added-of}
 use Rattle.lifecycle.specs.FdtCalls.{new-slot}
-use Rattle.lifecycle.specs.FdtMeans.{Seen, ListAdds, refused, admits, unknown, full}
+use Rattle.lifecycle.proofs.FdtMeans.{Seen, ListAdds, refused, admits, unknown, full}
 use Rattle.lifecycle.specs.declared.fdt.Fdt.{Fdt}
 use Rattle.lifecycle.specs.declared.fdt.Added.{Added}
 use Rattle.lifecycle.specs.declared.fdt.Admission.the-variants as AdmissionV

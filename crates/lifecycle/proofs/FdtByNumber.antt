@@ -18,9 +18,9 @@ use Rattle.sizes.proofs.Collects.{at-inside}
 use Rattle.sizes.proofs.AllocatorViews.{freed-view}
 use Rattle.lifecycle.specs.FileDesc.{life-of, with-life, reset-life}
 use Rattle.lifecycle.specs.Slots.{no-slot, slot-at, is-listed-as}
-use Rattle.lifecycle.specs.FdtCalls.{waiting, files, sends, used, waits, Valid, listed-place, transfers-of, unlisted-of, freed-of, removed-of, triggered-of}
+use Rattle.lifecycle.specs.FdtCalls.{file-at, waiting, files, sends, used, waits, Valid, listed-place, transfers-of, unlisted-of, freed-of, removed-of, triggered-of}
 use Rattle.lifecycle.specs.FdtCalls.{unlisted-slot}
-use Rattle.lifecycle.specs.FdtMeans.{file-at, is-not, Listed, listed-files, Removal, nobody, sent, waited, listed-but, ListRemoves, reset-file, Triggers}
+use Rattle.lifecycle.proofs.FdtMeans.{is-not, Listed, listed-files, Removal, nobody, sent, waited, listed-but, ListRemoves, reset-file, Triggers}
 use Rattle.lifecycle.specs.declared.filedesc.Time.{Time}
 use Rattle.lifecycle.specs.declared.filedesc.FileDesc.{FileDesc}
 use Rattle.lifecycle.specs.declared.slots.Slot.{Slot}
@@ -72,19 +72,32 @@ module _ (t : ℕ) (f : Fdt) (v : Valid f) where
 pub removed-cases : (t : ℕ) (f : Fdt) → Valid f → Removal t f (removed-of t f)
 unfolding removed-of unlisted-of freed-of
 removed-cases t f v = maybe-on (Removal t f) (listed-place t f)
-    (λ e. nobody (none-listed t f e) (keep-none t f v (none-waits t f v e)) refl)
+    (λ e. nobody (record { unlisted = none-listed t f e; queue = keep-none t f v (none-waits t f v e); unchanged = refl }))
     (λ k e.
     let li = listed-at t f k e in
     let y = slot-at (f .slots) k in
     if-on (λ g. Removal t f (record { yes = true; fdt = g })) (sends y)
-    (λ s. sent k li s (keep-none t f v (sent-waits t f v k li s)) refl refl (seen-aside f v k (li .inn) (unlisted-slot y) (f .tois) (waits-not y s)))
+    (λ s. sent k (record {
+      found = li;
+      is-sent = s;
+      queue = keep-none t f v (sent-waits t f v k li s);
+      answer = refl;
+      tois = refl;
+      view = seen-aside f v k (li .inn) (unlisted-slot y) (f .tois) (waits-not y s);
+    }))
     (λ s. maybe-on (λ g. Removal t f (record { yes = true; fdt = g })) (place (λ j. eqb j k) (waiting f))
     (λ q. absurd (in-queue t f v k li s q))
     (λ n q.
     let st = queue-place f v k n q in
     let nu = subst (λ m. 1 ≤ times m (Alloc.bound (f .tois))) (li .number) (number-held f v k (li .inn) (used-listed y (li .is-listed))) in
-    waited k n li (waits-at f v n k st) (cut-keep t f v k n li st) refl (freed-view (f .tois) (v .tois) t nu)
-    (seen-leaves f v k (li .inn) no-slot (Alloc.dropped-of false t (f .tois) .allocator) n st))))
+    waited k n (record {
+      found = li;
+      waits = waits-at f v n k st;
+      queue = cut-keep t f v k n li st;
+      answer = refl;
+      number = freed-view (f .tois) (v .tois) t nu;
+      view = seen-leaves f v k (li .inn) no-slot (Alloc.dropped-of false t (f .tois) .allocator) n st;
+    }))))
 
 -- the answer
 pub removed-answer : (t : ℕ) (f : Fdt) → removed-of t f .yes ≡ given (listed-place t f)
@@ -108,29 +121,29 @@ unfolding is-listed-as
 removed-view t f v = go (removed-of t f) (removed-cases t f v)
   where
     go : (r : Told) → Removal t f r → ListRemoves t f (r .fdt)
-    go r (nobody a q e) = subst (λ (x : Told). ListRemoves t f (x .fdt)) (sym e) (record {
-      queue = q;
+    go r (nobody h) = subst (λ (x : Told). ListRemoves t f (x .fdt)) (sym (h .unchanged)) (record {
+      queue = h .queue;
       sent-same = λ j. refl;
       file-same = λ j s. refl;
-      unlists = λ j s. (let y = slot-at (f .slots) j in still (y .listed) (eqb (y .file .toi) t) (a j));
+      unlists = λ j s. (let y = slot-at (f .slots) j in still (y .listed) (eqb (y .file .toi) t) (h .unlisted j));
     })
-    go r (sent k li s q y c w) = record {
-      queue = w .queue ∙ q;
-      sent-same = at-each (λ j. sends (slot-at (r .fdt .slots) j) ≡ sends (slot-at (f .slots) j)) k (ap sends (w .new)) (λ j n. ap sends (w .same j n));
+    go r (sent k h) = record {
+      queue = h .view .queue ∙ h .queue;
+      sent-same = at-each (λ j. sends (slot-at (r .fdt .slots) j) ≡ sends (slot-at (f .slots) j)) k (ap sends (h .view .new)) (λ j n. ap sends (h .view .same j n));
       file-same = at-each (λ j. sends (slot-at (f .slots) j) ≡ true → file-at (r .fdt .slots) j ≡ file-at (f .slots) j) k
-          (λ z. ap (λ (x : Slot). x .file) (w .new)) (λ j n z. ap (λ (x : Slot). x .file) (w .same j n));
+          (λ z. ap (λ (x : Slot). x .file) (h .view .new)) (λ j n z. ap (λ (x : Slot). x .file) (h .view .same j n));
       unlists = at-each (λ j. sends (slot-at (f .slots) j) ≡ true → slot-at (r .fdt .slots) j .listed ≡ listed-but t (slot-at (f .slots) j)) k
-          (λ z. ap (λ (x : Slot). x .listed) (w .new) ∙ dropped (slot-at (f .slots) k .listed) (eqb (file-at (f .slots) k .toi) t) (eq-eqb (file-at (f .slots) k .toi) t (li .number)))
-          (λ j n z. ap (λ (x : Slot). x .listed) (w .same j n) ∙ kept (slot-at (f .slots) j .listed) (eqb (file-at (f .slots) j .toi) t) (others f v t k li j (used-sends (slot-at (f .slots) j) z) n));
+          (λ z. ap (λ (x : Slot). x .listed) (h .view .new) ∙ dropped (slot-at (f .slots) k .listed) (eqb (file-at (f .slots) k .toi) t) (eq-eqb (file-at (f .slots) k .toi) t (h .found .number)))
+          (λ j n z. ap (λ (x : Slot). x .listed) (h .view .same j n) ∙ kept (slot-at (f .slots) j .listed) (eqb (file-at (f .slots) j .toi) t) (others f v t k (h .found) j (used-sends (slot-at (f .slots) j) z) n));
     }
-    go r (waited k n li h q y c w) = record {
-      queue = w .queue ∙ q;
-      sent-same = at-each (λ j. sends (slot-at (r .fdt .slots) j) ≡ sends (slot-at (f .slots) j)) k (ap sends (w .new) ∙ sym (h .unsent)) (λ j n. ap sends (w .same j n));
+    go r (waited k m h) = record {
+      queue = h .view .queue ∙ h .queue;
+      sent-same = at-each (λ j. sends (slot-at (r .fdt .slots) j) ≡ sends (slot-at (f .slots) j)) k (ap sends (h .view .new) ∙ sym (h .waits .unsent)) (λ j n. ap sends (h .view .same j n));
       file-same = at-each (λ j. sends (slot-at (f .slots) j) ≡ true → file-at (r .fdt .slots) j ≡ file-at (f .slots) j) k
-          (λ z. absurd (false≢true (sym (h .unsent) ∙ z))) (λ j n z. ap (λ (x : Slot). x .file) (w .same j n));
+          (λ z. absurd (false≢true (sym (h .waits .unsent) ∙ z))) (λ j n z. ap (λ (x : Slot). x .file) (h .view .same j n));
       unlists = at-each (λ j. sends (slot-at (f .slots) j) ≡ true → slot-at (r .fdt .slots) j .listed ≡ listed-but t (slot-at (f .slots) j)) k
-          (λ z. absurd (false≢true (sym (h .unsent) ∙ z)))
-          (λ j n z. ap (λ (x : Slot). x .listed) (w .same j n) ∙ kept (slot-at (f .slots) j .listed) (eqb (file-at (f .slots) j .toi) t) (others f v t k li j (used-sends (slot-at (f .slots) j) z) n));
+          (λ z. absurd (false≢true (sym (h .waits .unsent) ∙ z)))
+          (λ j n z. ap (λ (x : Slot). x .listed) (h .view .same j n) ∙ kept (slot-at (f .slots) j .listed) (eqb (file-at (f .slots) j .toi) t) (others f v t k (h .found) j (used-sends (slot-at (f .slots) j) z) n));
     }
 
 -- ---- trigger
@@ -180,7 +193,7 @@ module _ (t : ℕ) (start : Time) (f : Fdt) (v : Valid f) where
 
 -- ---- the object with a number
 
-given-none : {A : Type 0} (o : Option A) → given o ≡ false → o ≡ none
+pub given-none : {A : Type 0} (o : Option A) → given o ≡ false → o ≡ none
 given-none none e = refl
 given-none (some a) e = absurd (true≢false e)
 

@@ -21,7 +21,7 @@ use Rattle.sizes.proofs.Tables.{times-at, times-cut, inside, set-all, tally-lt,
 use Rattle.sizes.proofs.Collects.{adds, at-inside, collect-set, collect-at}
 use Rattle.lifecycle.specs.Slots.{no-slot, slot-at, is-free, is-listed-as}
 use Rattle.lifecycle.specs.FdtCalls.{waiting, sends, used, waits, Tidy, Valid, with-objects, listed-place}
-use Rattle.lifecycle.specs.FdtMeans.{Waits, Free, Listed}
+use Rattle.lifecycle.proofs.FdtMeans.{Waits, Free, Listed}
 use Rattle.lifecycle.specs.declared.slots.Slot.{Slot}
 use Rattle.lifecycle.specs.declared.fdt.Fdt.{Fdt}
 
@@ -108,13 +108,6 @@ module _ (f : Fdt) (v : Valid f) where
         here = sym (getD-take (f .queued) (f .queue) n 0 early) ∙ at-get 0 (waiting f) n k e .0;
         gone = omega arith;
       }
-
-  -- one that is listed or in transfer has a holder
-  pub listed-held : (k : ℕ) → slot-at (f .slots) k .listed ≡ true → 0 < slot-at (f .slots) k .holders
-  listed-held k e = let a = v .tidy k .count in let b = ap one-if e in omega arith
-
-  pub sent-held : (k : ℕ) → sends (slot-at (f .slots) k) ≡ true → 0 < slot-at (f .slots) k .holders
-  sent-held k e = let a = v .tidy k .count in let b = ap one-if e in omega arith
 
   -- one that does not wait is not in the queue, and leaves room in it
   pub absent : (k : ℕ) → waits (slot-at (f .slots) k) ≡ false → times k (waiting f) ≡ 0

@@ -20,7 +20,7 @@ use Rattle.sizes.proofs.Lists.{found-first, at-take, at-get}
 use Rattle.sizes.proofs.Arrays.{each-get}
 use Rattle.sizes.proofs.Tables.{inside}
 use Rattle.lifecycle.proofs.FdtFacts as Facts
-use Rattle.lifecycle.proofs.FdtFacts.{one-true, sent-held}
+use Rattle.lifecycle.proofs.FdtFacts.{one-true}
 use Rattle.lifecycle.specs.Lifecycle.{expired}
 use Rattle.lifecycle.specs.FileDesc.{plan-of, life-of, with-life, reset-life}
 use Rattle.lifecycle.specs.Slots.{no-slot, slot-at, place-said, is-free, is-listed-as, queue-startable}
@@ -62,7 +62,7 @@ module _ (f : Fdt) (v : Valid f) where
 
   -- one that a session sends has a holder
   pub sends-held : (k : ℕ) → sends (slot-at (f .slots) k) ≡ true → 0 < slot-at (f .slots) k .holders
-  sends-held = sent-held f v
+  sends-held k e = let a = v .tidy k .count in let b = ap one-if e in omega arith
 
   -- what passes a test that a free slot fails is a slot
   slot-inside : (p : Slot → Bool) (k : ℕ) → p no-slot ≡ false → p (slot-at (f .slots) k) ≡ true → k < object-slots

@@ -25,7 +25,7 @@ use Rattle.lifecycle.specs.FileDesc.{plan-of, life-of, with-life, starte
 use Rattle.lifecycle.specs.Announce.{FdtValid}
 use Rattle.lifecycle.specs.Slots.{no-slot, slot-at, is-free, queue-startable, published-slot}
 use Rattle.lifecycle.specs.FdtCalls.{waiting, sends, used, waits, used-tois, Tidy, Valid, with-tois, with-slots, completed-of, reserved-of, released-of, own-of, bad-part-of, put-of, named-of, fresh-of, numbered-of, added-of, listed-place, unlisted-of, freed-of, removed-of, triggered-of, taken-at, taken-of, ended-file, goes-back, back-of, let-go-of, done-of}
-use Rattle.lifecycle.specs.FdtMeans.{Listed}
+use Rattle.lifecycle.proofs.FdtMeans.{Listed}
 use Rattle.lifecycle.specs.declared.filedesc.Time.{Time}
 use Rattle.lifecycle.specs.declared.slots.Slot.{Slot}
 use Rattle.lifecycle.specs.declared.fdt.Fdt.{Fdt}

@@ -19,9 +19,9 @@ use Rattle.sizes.proofs.Collects.{adds, at-inside, collect-set, collect-at}
 use Rattle.sizes.proofs.AllocatorViews.{held-split, freed-view}
 use Rattle.lifecycle.specs.FileDesc.{startable-file}
 use Rattle.lifecycle.specs.Slots.{no-slot, slot-at, queue-startable, published-slot}
-use Rattle.lifecycle.specs.FdtCalls.{waiting, files, sends, used, waits, Valid, with-slots, with-objects, taken-at, taken-of, goes-back, back-of, let-go-of, done-of}
+use Rattle.lifecycle.specs.FdtCalls.{file-at, waiting, files, sends, used, waits, Valid, with-slots, with-objects, taken-at, taken-of, goes-back, back-of, let-go-of, done-of}
 use Rattle.lifecycle.specs.FdtCalls.{started-slot, ended-slot}
-use Rattle.lifecycle.specs.FdtMeans.{file-at, Listed, Seen, Takes, nothing, takes, Ends, idle, back, gone, published-file}
+use Rattle.lifecycle.proofs.FdtMeans.{Listed, Seen, Takes, nothing, takes, Ends, idle, back, gone, published-file}
 use Rattle.lifecycle.specs.declared.slots.Slot.{Slot}
 use Rattle.lifecycle.specs.declared.slots.Place.the-variants.{At}
 use Rattle.lifecycle.specs.declared.fdt.Fdt.{Fdt}

@@ -1,21 +1,21 @@
 -- Laws of the FDT calls: what they answer, put together from their steps.
-use mathlib.Core.Path.{_≡_, refl, sym, _∙_, ap}
-use mathlib.Core.Bool.{Bool, true, false, _||_}
+use mathlib.Core.Path.{_≡_, refl, sym, _∙_, ap, subst}
+use mathlib.Core.Bool.{Bool, true, false}
+use mathlib.Core.Option.{Option, none, some}
 use mathlib.Core.List.{[], map}
 use Prim.Native.Nat.{ℕ, _<_, _≤_}
-use lib.Dec.{eqb, leb}
-use borrow.Author.Tests.{lt-ltb, leb-false}
+use borrow.Author.Tests.{lt-ltb}
 use Rattle.sizes.specs.Words.{if_then_else_}
 use Rattle.sizes.specs.Limits.{waiting-fdts, largest-fdt-id}
+use Rattle.sizes.specs.declared.refusal.Refusal.{Refusal}
 use Rattle.sizes.specs.Allocator as Alloc
 use Rattle.sizes.specs.declared.toiallocator.ToiMaxLength.{ToiMaxLength}
 use Rattle.sizes.specs.declared.toiallocator.ToiAllocator.{ToiAllocator}
 use Rattle.sizes.proofs.AllocatorLaws.{valid-opening as valid-numbers}
 use Rattle.sizes.proofs.AllocatorViews.{opened-view}
-use Rattle.lifecycle.specs.Setup.{bad-blocks}
 use Rattle.lifecycle.specs.Slots.{published-slot}
 use Rattle.lifecycle.specs.Announce as Ann
-use Rattle.lifecycle.specs.Announce.{FdtValid, fdt-rule, queued-of, published-of, next-of, bad-fdt-of}
+use Rattle.lifecycle.specs.Announce.{FdtValid, fdt-rule, queued-of, published-of, next-of}
 use Rattle.lifecycle.specs.FdtCalls.{Valid, with-slots, announced, with-announcer, publish-of, next-fdt-of, fdt-done-of, opening-fdt}
 use Rattle.lifecycle.specs.declared.parts.Part.{Part}
 use Rattle.lifecycle.specs.declared.filedesc.Rule.{Rule}
@@ -28,6 +28,7 @@ use Rattle.lifecycle.specs.declared.fdt.Published.{Published}
 use Rattle.lifecycle.specs.declared.fdt.Settings.{Settings}
 use Rattle.lifecycle.proofs.AnnounceLaws.{valid-queued, valid-next, valid-done, valid-opening}
 use Rattle.lifecycle.proofs.FdtFacts.{if-on}
+use Rattle.lifecycle.proofs.FdtKeeps.{publish-refusal-of, publishable, published-by, publish-as}
 use Rattle.lifecycle.proofs.FdtValid.{opening, valid-published}
 
 -- where there is room, a publish queues
@@ -76,12 +77,11 @@ valid-announced : (f : Fdt) (a : Announcer) → FdtValid a → Valid f → Valid
 valid-announced f a w v = with-side (with-slots f (map published-slot (f .slots))) a w (valid-published f v)
 
 pub valid-publish : (now : ℕ) (c : Part) (f : Fdt) → Valid f → Valid (publish-of now c f .fdt)
-unfolding publish-of
-valid-publish now c f v =
-    if-on (λ (r : Published). Valid (r .fdt)) (bad-blocks (f .settings .sizes) (c .size)) (λ e. v)
-    (λ e. if-on (λ (r : Published). Valid (r .fdt)) (bad-fdt-of (f .settings .«fdt_store») c (f .announcer) || eqb (c .size) 0) (λ e. v)
-    (λ e. if-on (λ (r : Published). Valid (r .fdt)) (leb waiting-fdts (f .announcer .waiting)) (λ e. v)
-    (λ e. valid-announced f (queued-of now c (f .announcer)) (valid-queued (f .announcer) (v .fdts) now c (leb-false waiting-fdts (f .announcer .waiting) e)) v)))
+valid-publish now c f v = subst (λ (r : Published). Valid (r .fdt)) (sym (publish-as c f now)) (by (publish-refusal-of c f) refl)
+  where
+    by : (o : Option Refusal) → publish-refusal-of c f ≡ o → Valid (published-by c f now o .fdt)
+    by (some why) e = v
+    by none e = valid-announced f (queued-of now c (f .announcer)) (valid-queued (f .announcer) (v .fdts) now c (publishable c f e .room)) v
 
 pub valid-next-fdt : (now : ℕ) (draft : Draft) (f : Fdt) → Valid f → Valid (next-fdt-of now draft f .fdt)
 unfolding next-fdt-of

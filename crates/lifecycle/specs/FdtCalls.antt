@@ -57,9 +57,13 @@ use Rattle.lifecycle.specs.Announce.{FdtValid, fdt-rule, queued-of, next
 abbrev pub waiting : Fdt → List ℕ
 waiting f = take (f .queued) (f .queue)
 
+-- the object in a slot
+abbrev pub file-at : List Slot → ℕ → FileDesc
+file-at t k = slot-at t k .file
+
 -- the objects that wait, in order
 abbrev pub files : Fdt → List FileDesc
-files f = map (λ k. slot-at (f .slots) k .file) (waiting f)
+files f = map (file-at (f .slots)) (waiting f)
 
 -- is it transferring; does someone hold it; does it wait
 abbrev pub sends : Slot → Bool

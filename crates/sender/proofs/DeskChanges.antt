@@ -13,18 +13,21 @@ use Rattle.sizes.proofs.Tables.{map-at, find-map}
 use Rattle.lifecycle.specs.Setup.{Setup}
 use Rattle.lifecycle.specs.Slots.{slot-at}
 use Rattle.lifecycle.specs.Announce.{state-of}
-use Rattle.lifecycle.specs.FdtCalls.{files, sends, listed-place}
-use Rattle.lifecycle.specs.FdtMeans.{file-at, listed-files, SentSame}
+use Rattle.lifecycle.specs.FdtCalls.{file-at, files, sends, listed-place}
+use Rattle.lifecycle.proofs.FdtMeans.{listed-files, SentSame}
 use Rattle.lifecycle.specs.declared.filedesc.FileDesc.{FileDesc}
 use Rattle.lifecycle.specs.declared.slots.Slot.{Slot}
+use Rattle.lifecycle.specs.declared.announce.Announcer.{Announcer}
 use Rattle.lifecycle.specs.declared.fdt.Fdt.{Fdt}
+use Rattle.lifecycle.proofs.FdtKeeps.{ObjectsOnly}
 use Rattle.lifecycle.proofs.FdtSent.{same-counts}
 use Rattle.lifecycle.proofs.FdtByNumber.{listed-given}
 use Rattle.definition.specs.Session.{Object, Hand, Session}
 use Rattle.definition.specs.Desk as Def
 use Rattle.sender.specs.SessionCalls.{object-of, hand-of, session-of, idle-of, Holds}
 use Rattle.sender.specs.FdtSessionCalls.{FdtHolds}
-use Rattle.sender.specs.SessionMeans.{Stands, SameSide}
+use Rattle.sender.specs.SessionMeans.{Stands}
+use Rattle.sender.proofs.SessionFacts.{SameSide}
 use Rattle.sender.specs.SenderCalls.{working, desk-of, Agrees, slot-in, Valid, with-list}
 use Rattle.sender.specs.declared.sendersession.SenderSession.{SenderSession}
 use Rattle.sender.specs.declared.sender.Sender.{Sender}
@@ -84,6 +87,19 @@ pub record Stays (f r : Fdt) : Type 0 where
   pub part : (j : ℕ) → sends (slot-at (f .slots) j) ≡ true → file-at (r .slots) j .part ≡ file-at (f .slots) j .part
   pub sizes : (j : ℕ) → sends (slot-at (f .slots) j) ≡ true → file-at (r .slots) j .sizes ≡ file-at (f .slots) j .sizes
   pub current : r .announcer .current .life .transferring ≡ f .announcer .current .life .transferring
+
+-- what is in transfer stays as it was
+abbrev pub SentKept : Fdt → Fdt → Type 0
+SentKept f r = (j : ℕ) → sends (slot-at (f .slots) j) ≡ true → slot-at (r .slots) j ≡ slot-at (f .slots) j
+
+pub kept-stays : (f r : Fdt) → ObjectsOnly f r → SentSame f r → SentKept f r → Stays f r
+kept-stays f r o sent kept = record {
+  settings = o .settings;
+  sent-same = sent;
+  part = λ j e. ap (λ (y : Slot). y .file .part) (kept j e);
+  sizes = λ j e. ap (λ (y : Slot). y .file .sizes) (kept j e);
+  current = ap (λ (a : Announcer). a .current .life .transferring) (o .announcer);
+}
 
 -- what a session has in hand may stay there
 pub stands-list : (f r : Fdt) (w : ℕ) (x : SenderSession) → Stays f r → Stands f w x → Stands r w x

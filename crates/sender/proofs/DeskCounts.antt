@@ -21,8 +21,7 @@ use Rattle.sizes.proofs.AllocatorLaws.{held-length, held-noting}
 use Rattle.sizes.proofs.AllocatorViews.{held-split}
 use Rattle.lifecycle.specs.Setup.{Setup}
 use Rattle.lifecycle.specs.Slots.{no-slot, slot-at, is-free}
-use Rattle.lifecycle.specs.FdtCalls.{waiting, sends, used}
-use Rattle.lifecycle.specs.FdtMeans.{file-at}
+use Rattle.lifecycle.specs.FdtCalls.{file-at, waiting, sends, used}
 use Rattle.lifecycle.specs.declared.slots.Slot.{Slot}
 use Rattle.lifecycle.proofs.FdtFacts.{one-true}
 use Rattle.lifecycle.proofs.FdtViews.{differs, map-two}

@@ -2,42 +2,35 @@
 use Rattle.sizes.specs.declared.refusal.Refusal.{Refusal}
 use Rattle.sizes.specs.declared.refusal.Refusal.the-variants as Because
 use mathlib.Core.Path.{_≡_, refl, sym, _∙_, ap, subst}
-use mathlib.Core.Bool.{Bool, true, false, _&&_, _||_}
+use mathlib.Core.Bool.{Bool, true, false, _||_}
 use mathlib.Core.Option.{Option, none, some}
 use mathlib.Core.List.{[], _∷_}
 use Prim.Native.Nat.{ℕ}
-use native.Mathlib.Omega.{arith}
-use lib.Dec.{eqb}
 use lib.ListN.{getD}
-use borrow.Author.Tests.{eqb-false}
-use Rattle.sizes.specs.Words.{if_then_else_, maybe, given, collect, first-of}
+use Rattle.sizes.specs.Words.{if_then_else_, maybe, collect, first-of}
 use Rattle.lifecycle.specs.Lifecycle as Life
 use Rattle.lifecycle.specs.Setup.{Setup, bad-blocks}
 use Rattle.lifecycle.specs.Fdt.{bad-fdt-part}
-use Rattle.lifecycle.specs.FileDesc.{plan-of, life-of, started-life, done-life}
-use Rattle.lifecycle.specs.Announce as Ann
-use Rattle.lifecycle.specs.Announce.{state-of, draft-given, FdtValid, needs-new-of, queued-of, republished-of, front-of, start-of, transferring-of, next-of, bad-fdt-of}
+use Rattle.lifecycle.specs.Announce.{state-of, draft-given, bad-fdt-of}
 use Rattle.lifecycle.specs.FdtCalls.{with-slots, announced, with-announcer, real-draft, draft-test-of, next-fdt-of, fdt-done-of}
 use Rattle.lifecycle.specs.FdtCalls.{Valid as ListValid}
 use Rattle.lifecycle.specs.declared.parts.Part.{Part}
-use Rattle.lifecycle.specs.declared.filedesc.Rule.{Rule}
-use Rattle.lifecycle.specs.declared.announce.Instance.{Instance}
 use Rattle.lifecycle.specs.declared.announce.Announcer.{Announcer}
-use Rattle.lifecycle.specs.declared.announce.NextFdt.{NextFdt}
 use Rattle.lifecycle.specs.declared.announce.Draft.{Draft}
-use Rattle.lifecycle.specs.declared.announce.Draft.the-variants.{Given, Missing}
 use Rattle.lifecycle.specs.declared.fdt.Fdt.{Fdt}
 use Rattle.lifecycle.specs.declared.fdt.Settings.{Settings}
-use Rattle.lifecycle.proofs.FdtFacts.{if-on, maybe-on}
+use Rattle.lifecycle.proofs.FdtFacts.{if-on}
+use Rattle.lifecycle.proofs.FdtKeeps.{real-given, draft-test-as}
+use Rattle.lifecycle.proofs.AnnounceSends.{current-sends, next-fdt-sends, fdt-done-sends}
 use Rattle.lifecycle.proofs.FdtSent.{same-counts}
-use Rattle.lifecycle.proofs.AnnounceLaws.{valid-republished, bad-said}
+use Rattle.lifecycle.proofs.AnnounceLaws.{bad-said}
 use Rattle.lifecycle.proofs.PublishLaws.{valid-next-fdt, valid-fdt-done}
 use Rattle.definition.specs.FdtSession.{FdtTurn, fdt-run}
 use Rattle.definition.specs.Desk as Def
 use Rattle.sender.specs.EncoderCalls.{read-of}
 use Rattle.sender.specs.SessionCalls.{idle-of, Holds}
 use Rattle.sender.specs.FdtSessionCalls.{FdtHolds, FdtTries, left-of, fdt-begun-of, fdt-sent-by, fdt-sent-of, fdt-attempted-of, fdt-again-by, fdt-ran-of}
-use Rattle.sender.specs.SessionMeans.{Stands, FdtStands, SetFor, fdt-of, fdt-packet-said, SameObjects, marked-slots, FdtTurns}
+use Rattle.sender.specs.SessionMeans.{Stands, fdt-of}
 use Rattle.sender.specs.SenderCalls.{working, slot-in, desk-of, Agrees, Valid, Kept, fdt-answer, answer-of, fdt-running-by, fdt-running-of}
 use Rattle.sender.specs.declared.blockencoder.Emitted.{Emitted}
 use Rattle.sender.specs.declared.blockencoder.Emitted.the-variants as EmittedV
@@ -50,7 +43,8 @@ use Rattle.sender.specs.declared.sender.Sender.{Sender}
 use Rattle.sender.specs.declared.sender.RunAnswer.the-variants as RunV
 use Rattle.sender.proofs.SessionLaws.{holds-next-fdt, holds-fdt-done}
 use Rattle.sender.proofs.FdtSessionLaws.{draft-looked}
-use Rattle.sender.proofs.FdtSessionFacts.{stands-tries, next-starts, next-announcer}
+use Rattle.lifecycle.proofs.AnnounceKeep.{SameObjects, marked-slots}
+use Rattle.sender.proofs.FdtSessionFacts.{FdtStands, SetFor, stands-tries, fdt-packet-said, FdtTurns}
 use Rattle.sender.proofs.FdtSessionViews.{fdt-ran-means}
 use Rattle.sender.proofs.DeskChanges.{Stays, stands-list, agrees-list}
 use Rattle.sender.proofs.DeskPublish.{announced-desk, announced-stays}
@@ -97,62 +91,16 @@ ran-holds w now draft = ran-on w now draft (λ f b. Holds f) (λ d f h. holds-ne
 
 -- ---- the current FDT is being transferred exactly while one is in hand
 
--- is the current one being transferred
-abbrev sending : Announcer → Bool
-sending a = a .current .life .transferring
-
-module _ (a : Announcer) (v : FdtValid a) where
-  -- none that waits is
-  front-sending : sending a ≡ false → sending (front-of a) ≡ false
-  unfolding front-of
-  front-sending e = if-on (λ (b : Announcer). sending b ≡ false) (eqb (a .waiting) 0) (λ z. e) (λ z. v .idle 0 (let n = eqb-false (a .waiting) 0 z in omega (arith, n)))
-
-  done-sending : (now : ℕ) → sending (Ann.done-of now a) ≡ false
-  unfolding Ann.done-of done-life
-  done-sending now = if-on (λ (b : Announcer). sending b ≡ false) (a .«has_current») (λ e. refl) (λ e. ap (λ (i : Instance). i .life .transferring) (v .blank e))
-
-republished-sending : (validity now : ℕ) (draft : Draft) (a : Announcer) → sending (republished-of validity now draft a) ≡ sending a
-unfolding republished-of queued-of
-republished-sending validity now draft a =
-    if-on (λ (b : Announcer). sending b ≡ sending a) (needs-new-of validity now a) (λ e. maybe-on (λ (b : Announcer). sending b ≡ sending a) (draft-given draft) (λ q. refl) (λ c q. refl)) (λ e. refl)
-
--- after the question for the next one, the current one is being transferred exactly where it starts
-abbrev Starts : NextFdt → Type 0
-Starts n = sending (n .announcer) ≡ n .starts
-
-start-sending : (r : Rule) (now : ℕ) (taken : Bool) (a : Announcer) → sending a ≡ false → Starts (start-of r now taken a)
-unfolding start-of started-life
-start-sending r now taken a e = if-on Starts (a .«has_current» && Life.may-start (plan-of r) now (life-of (a .current .life))) (λ c. refl) (λ c. e)
-
-next-sending : (r : Rule) (validity now : ℕ) (draft : Draft) (a : Announcer) → FdtValid a → sending a ≡ false → Starts (next-of r validity now draft a)
-unfolding next-of
-next-sending r validity now draft a v e = if-on Starts (transferring-of a) (λ q. e) (λ q.
-    let b = republished-of validity now draft a in
-    start-sending r now (needs-new-of validity now a && given (draft-given draft)) (front-of b)
-    (front-sending b (valid-republished a v validity now draft) (republished-sending validity now draft a ∙ e)))
-
--- the same of the list
-module _ (now : ℕ) (f : Fdt) (v : ListValid f) where
-  list-next : (draft : Draft) → sending (f .announcer) ≡ false → sending (next-fdt-of now draft f .fdt .announcer) ≡ next-fdt-of now draft f .starts
-  list-next draft e =
-      ap sending (next-announcer now draft f)
-      ∙ next-sending (Ann.fdt-rule (f .settings .«from_start») (f .settings .interval)) (f .settings .validity) now draft (f .announcer) (v .fdts) e
-      ∙ sym (next-starts now draft f)
-
-  list-done : sending (fdt-done-of now f .announcer) ≡ false
-  unfolding fdt-done-of
-  list-done = done-sending (f .announcer) (v .fdts) now
-
 -- so it is before and after each step of a run
 record Matched (f : Fdt) (busy : Bool) : Type 0 where
   valid : ListValid f
-  matched : sending (f .announcer) ≡ busy
+  matched : current-sends (f .announcer) ≡ busy
 
 pub ran-matched : (w now : ℕ) (draft : Draft) (f : Fdt) (x : FdtSession) → ListValid f → f .announcer .current .life .transferring ≡ x .busy
     → fdt-ran-of w now draft f x .fdt .announcer .current .life .transferring ≡ fdt-ran-of w now draft f x .session .busy
 ran-matched w now draft f x v e = ran-on w now draft Matched
-    (λ d f m. record { valid = valid-next-fdt now d f (m .valid); matched = list-next now f (m .valid) d (m .matched) })
-    (λ f m. record { valid = valid-fdt-done now f (m .valid); matched = list-done now f (m .valid) })
+    (λ d f m. record { valid = valid-next-fdt now d f (m .valid); matched = next-fdt-sends now f (m .valid) d (m .matched) })
+    (λ f m. record { valid = valid-fdt-done now f (m .valid); matched = fdt-done-sends now f (m .valid) })
     f x (record { valid = v; matched = e }) .matched
 
 -- ---- the sender with another FDT side
@@ -236,25 +184,21 @@ module _ (s : Sender) (v : Valid s) (f : Fdt) (y : FdtSession) (taken : Bool) (s
 
 -- a draft of length 0 is none on both sides
 draft-view : (draft : Draft) → Def.draft-of (draft-given draft) ≡ draft-given (real-draft draft)
-unfolding Def.draft-of real-draft
-draft-view Missing = refl
-draft-view (Given c) = by (eqb (c .size) 0)
-  where
-    by : (b : Bool) → (if b then none else some c) ≡ draft-given (if b then Missing else Given c)
-    by true = refl
-    by false = refl
+unfolding Def.draft-of
+draft-view draft = sym (real-given draft)
 
 -- it is refused for the same
 refusal-view : (u : Setup) (s : Sender) → Agrees u s → (draft : Draft) → Def.draft-refusal u (desk-of s .fdt) (draft-given draft) ≡ draft-test-of (real-draft draft) (s .fdt)
-unfolding Def.draft-refusal draft-test-of desk-of
-refusal-view u s g draft = ap (maybe none said) (draft-view draft) ∙ by (real-draft draft)
+unfolding Def.draft-refusal desk-of
+refusal-view u s g draft = ap (maybe none said) (draft-view draft) ∙ by (draft-given (real-draft draft)) ∙ sym (draft-test-as (real-draft draft) (s .fdt))
   where
     said : Part → Option Refusal
     said c = first-of ((Because.Sizes, bad-blocks (u .sizes) (c .size)) ∷ (Because.Part, bad-fdt-part u (state-of (s .fdt .announcer)) c) ∷ [])
 
-    by : (d : Draft) → maybe none said (draft-given d) ≡ draft-test-of d (s .fdt)
-    by Missing = refl
-    by (Given c) = λ i. first-of ((Because.Sizes, bad-blocks (g .sizes i) (c .size)) ∷ (Because.Part, sym (bad-said c u (s .fdt .settings .«fdt_store») (s .fdt .announcer) (g .fdt-store)) i) ∷ [])
+    by : (o : Option Part) → maybe none said o
+        ≡ maybe none (λ (c : Part). first-of ((Because.Sizes, bad-blocks (s .fdt .settings .sizes) (c .size)) ∷ (Because.Part, bad-fdt-of (s .fdt .settings .«fdt_store») c (s .fdt .announcer)) ∷ [])) o
+    by none = refl
+    by (some c) = λ i. first-of ((Because.Sizes, bad-blocks (g .sizes i) (c .size)) ∷ (Because.Part, sym (bad-said c u (s .fdt .settings .«fdt_store») (s .fdt .announcer) (g .fdt-store)) i) ∷ [])
 
 -- ---- the call
 

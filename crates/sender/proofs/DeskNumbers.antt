@@ -1,6 +1,6 @@
 -- The calls that change only numbers, or that the list is complete: reserve, release, complete.
 use Rattle.sizes.specs.declared.refusal.Refusal.the-variants as Because
-use mathlib.Core.Path.{_≡_, refl, sym, _∙_, ap}
+use mathlib.Core.Path.{_≡_, refl, sym, _∙_, ap, subst}
 use mathlib.Core.Bool.{Bool, true, false, not, false≢true}
 use mathlib.Core.List.{[], _∷_}
 use Prim.Native.Nat.{ℕ, _≤_, _<_}
@@ -17,14 +17,18 @@ use Rattle.sizes.proofs.Tests.{Tested, pass, fail, tested}
 use Rattle.sizes.proofs.AllocatorLaws.{given-fresh, full-by, loose-found}
 use Rattle.sizes.proofs.AllocatorViews.{allocated-room, loose-reserved, released-view, released-none}
 use Rattle.lifecycle.specs.Setup.{Setup}
-use Rattle.lifecycle.specs.FdtCalls.{with-tois, reserved-of, released-of}
+use Rattle.lifecycle.specs.FdtCalls.{with-tois}
 use Rattle.lifecycle.specs.declared.fdt.Fdt.{Fdt}
-use Rattle.lifecycle.proofs.FdtFacts.{if-on, maybe-on}
+use Rattle.lifecycle.specs.declared.fdt.Reserved.{Reserved}
+use Rattle.lifecycle.specs.declared.fdt.Released.{Released}
+use Rattle.lifecycle.proofs.FdtFacts.{maybe-on}
+use Rattle.lifecycle.proofs.FdtKeeps.{allocated-width, dropped-width, reserved-as, released-as}
 use Rattle.definition.specs.Desk.{reserve-refusal, release-refusal, Call, Answer, Result, unless, step, not-loose, numbered, reserved, unloosed}
 use Rattle.sender.specs.SessionCalls.{Holds}
 use Rattle.sender.specs.FdtSessionCalls.{FdtHolds}
 use Rattle.sender.specs.SenderCalls.{desk-of, Agrees, Valid, Kept, alloc-answer, with-list, reserving-of, releasing-of, completing-of}
 use Rattle.sender.specs.declared.sender.Sender.{Sender}
+use Rattle.sender.proofs.DeskChanges.{valid-list, agrees-list}
 use Rattle.sender.proofs.DeskCounts.{full-view, next-view}
 
 -- ---- the numbers are changed, or that the list is complete, and nothing else is
@@ -38,46 +42,15 @@ module _ (s : Sender) (c : Bool) (a : ToiAllocator) where
   abbrev pub numbered-sender : Sender
   numbered-sender = with-list s (numbered-list (s .fdt) c a)
 
-  pub valid-numbered : Valid s → Holds (numbered-sender .fdt) → FdtHolds (numbered-sender .fdt) → Valid numbered-sender
-  valid-numbered v h g = record {
-    holds = h;
-    fdt-holds = g;
-    object-store = v .object-store;
-    fdt-store = v .fdt-store;
-    narrow = v .narrow;
-    few = v .few;
-    long = v .long;
-    sessions = λ i l. (let x = v .sessions i l in record {
-      busy = λ b. (let y = x .busy b in record { slot = y .slot; sent = y .sent; encoder = y .encoder; part = y .part; sizes = y .sizes; width = y .width });
-      idle = x .idle;
-    });
-    spare = v .spare;
-    in-hand = v .in-hand;
-    fdt-busy = λ b. (let y = v .fdt-busy b in record { encoder = y .encoder; sizes = y .sizes; width = y .width });
-    fdt-idle = v .fdt-idle;
-    matched = v .matched;
-  }
-
-  pub agrees-numbered : a .width ≡ s .fdt .tois .width → (u : Setup) → Agrees u s → Agrees u numbered-sender
-  agrees-numbered e u w = record {
-    window = w .window;
-    sizes = w .sizes;
-    object-store = w .object-store;
-    fdt-store = w .fdt-store;
-    width = w .width ∙ sym e;
-    carousel = w .carousel;
-    validity = w .validity;
-  }
-
   pub kept-numbered : (x : Call) (r : Answer) → Valid s → Holds (numbered-sender .fdt) → FdtHolds (numbered-sender .fdt) → a .width ≡ s .fdt .tois .width
       → ((u : Setup) → Agrees u s → step u (desk-of s) x ≡ (r, desk-of numbered-sender)) → Kept s x r numbered-sender
-  kept-numbered x r v h g e m = record { means = m; agrees = agrees-numbered e; valid = valid-numbered v h g }
+  kept-numbered x r v h g e m = record {
+    means = m;
+    agrees = λ u w. agrees-list u s (numbered-list (s .fdt) c a) refl e w;
+    valid = valid-list s (numbered-list (s .fdt) c a) v (record { settings = refl; sent-same = λ j. refl; part = λ j k. refl; sizes = λ j k. refl; current = refl }) h g;
+  }
 
 -- ---- reserve
-
-allocated-width : (flag : Bool) (a : ToiAllocator) → Alloc.allocated-of flag a .allocator .width ≡ a .width
-unfolding Alloc.allocated-of Alloc.moved-on Alloc.noting
-allocated-width flag a = if-on (λ (x : Allocated). x .allocator .width ≡ a .width) (ltb (a .entered) toi-entries) (λ e. refl) (λ e. refl)
 
 -- what a call of allocate makes of the answer and the desk
 abbrev after-reserve : Sender → Allocated → Result
@@ -121,16 +94,13 @@ module _ (s : Sender) (v : Valid s) (u : Setup) (w : Agrees u s) where
 
 pub reserve-kept : (s : Sender) → Valid s → Holds (reserving-of s .sender .fdt) → FdtHolds (reserving-of s .sender .fdt)
     → Kept s Call.reserve (alloc-answer (Alloc.given-said (reserving-of s .answer))) (reserving-of s .sender)
-unfolding reserving-of reserved-of
-reserve-kept s v h g =
+unfolding reserving-of
+reserve-kept s v =
     let x = Alloc.allocated-of true (s .fdt .tois) in
-    kept-numbered s (s .fdt .complete) (x .allocator) Call.reserve (alloc-answer (Alloc.given-said (x .answer))) v h g (allocated-width true (s .fdt .tois)) (λ u w. reserve-means s v u w)
+    subst (λ (r : Reserved). Holds (r .fdt) → FdtHolds (r .fdt) → Kept s Call.reserve (alloc-answer (Alloc.given-said (r .answer))) (with-list s (r .fdt))) (sym (reserved-as (s .fdt)))
+    (λ h g. kept-numbered s (s .fdt .complete) (x .allocator) Call.reserve (alloc-answer (Alloc.given-said (x .answer))) v h g (allocated-width (s .fdt .tois) true) (λ u w. reserve-means s v u w))
 
 -- ---- release
-
-pub dropped-width : (flag : Bool) (t : ℕ) (a : ToiAllocator) → Alloc.dropped-of flag t a .allocator .width ≡ a .width
-unfolding Alloc.dropped-of Alloc.without
-dropped-width flag t a = maybe-on (λ (x : Changed). x .allocator .width ≡ a .width) (place (Alloc.entry-is t flag) (Alloc.noted a)) (λ e. refl) (λ i e. refl)
 
 -- a loose reservation is let go
 released-some : (t : ℕ) (a : ToiAllocator) → has t (Alloc.loose a) ≡ true → Alloc.dropped-of true t a .answer ≡ Done
@@ -175,10 +145,11 @@ module _ (s : Sender) (v : Valid s) (u : Setup) (t : ℕ) where
 
 pub release-kept : (t : ℕ) (s : Sender) → Valid s → Holds (releasing-of t s .sender .fdt) → FdtHolds (releasing-of t s .sender .fdt)
     → Kept s (Call.release t) (alloc-answer (Alloc.known-said (releasing-of t s .answer))) (releasing-of t s .sender)
-unfolding releasing-of released-of
-release-kept t s v h g =
+unfolding releasing-of
+release-kept t s v =
     let x = Alloc.dropped-of true t (s .fdt .tois) in
-    kept-numbered s (s .fdt .complete) (x .allocator) (Call.release t) (alloc-answer (Alloc.known-said (x .answer))) v h g (dropped-width true t (s .fdt .tois)) (λ u w. release-means s v u t)
+    subst (λ (r : Released). Holds (r .fdt) → FdtHolds (r .fdt) → Kept s (Call.release t) (alloc-answer (Alloc.known-said (r .answer))) (with-list s (r .fdt))) (sym (released-as (s .fdt) t))
+    (λ h g. kept-numbered s (s .fdt .complete) (x .allocator) (Call.release t) (alloc-answer (Alloc.known-said (x .answer))) v h g (dropped-width (s .fdt .tois) true t) (λ u w. release-means s v u t))
 
 -- ---- complete
 

@@ -10,7 +10,7 @@ use lib.Dec.{eqb, ltb}
 use lib.ListN.{length, set, getD, take, length-set}
 use lib.Seq.{getD-set-same, getD-set-other, getD-take, take-set-lt, length-take-le}
 use borrow.Author.Tests.{eqb-true, eqb-false, ltb-true, ltb-false}
-use Rattle.sizes.specs.Words.{if_then_else_, maybe, over, collect, at, place, one-if, Counts}
+use Rattle.sizes.specs.Words.{if_then_else_, maybe, over, collect, at, one-if, Counts}
 use Rattle.sizes.specs.Limits.{object-slots}
 use Rattle.sizes.proofs.Tests.{Tested, pass, fail, tested}
 use Rattle.sizes.proofs.Lists.{at-map}
@@ -18,21 +18,21 @@ use Rattle.sizes.proofs.Tables.{map-at}
 use Rattle.sizes.proofs.Collects.{at-inside, adds, collect-set, collect-at}
 use Rattle.lifecycle.specs.Lifecycle as Life
 use Rattle.lifecycle.specs.Setup.{Setup}
-use Rattle.lifecycle.specs.Slots.{no-slot, slot-at, queue-startable}
+use Rattle.lifecycle.specs.Slots.{no-slot, slot-at}
 use Rattle.lifecycle.specs.Announce.{state-of, waits-of}
-use Rattle.lifecycle.specs.FdtCalls.{waiting, sends, taken-at, taken-of, goes-back, back-of, let-go-of, done-of}
+use Rattle.lifecycle.specs.FdtCalls.{sends, taken-of}
 use Rattle.lifecycle.specs.declared.slots.Place.{Place}
 use Rattle.lifecycle.specs.declared.slots.Place.the-variants as PlaceV
 use Rattle.lifecycle.specs.declared.fdt.Fdt.{Fdt}
-use Rattle.lifecycle.specs.declared.fdt.Taken.{Taken}
 use Rattle.lifecycle.specs.declared.announce.Announcer.{Announcer}
 use Rattle.lifecycle.proofs.AnnounceLaws.{waits-said}
-use Rattle.lifecycle.proofs.FdtFacts.{maybe-on, if-on}
+use Rattle.lifecycle.proofs.FdtFacts.{if-on}
+use Rattle.lifecycle.proofs.FdtKeeps.{taken-keeps, done-keeps}
 use Rattle.definition.specs.Session as DefS
 use Rattle.definition.specs.Desk as Def
 use Rattle.sender.specs.SessionCalls.{session-of, Runs, idle-of, ran-by, served-of, forced-slot, attended-of, taken-by, taken-on-of, again-by, ran-of}
 use Rattle.sender.specs.FdtSessionCalls.{fdt-hand-of}
-use Rattle.sender.specs.SessionMeans.{Stands, has-slot, queue-of, packet-said, turn-of, SameSide, FileRuns}
+use Rattle.sender.specs.SessionMeans.{Stands, queue-of}
 use Rattle.sender.specs.SenderCalls.{working, desk-of, Agrees, slot-in, Valid, Kept, file-answer, answer-of, running-of}
 use Rattle.sender.specs.declared.sendersession.SenderSession.{SenderSession}
 use Rattle.sender.specs.declared.sendersession.Served.{Served}
@@ -40,27 +40,15 @@ use Rattle.sender.specs.declared.sendersession.Served.the-variants.{Idle
 use Rattle.sender.specs.declared.sendersession.Ran.{Ran}
 use Rattle.sender.specs.declared.sender.Sender.{Sender}
 use Rattle.sender.specs.declared.sender.Running.{Running}
-use Rattle.sender.proofs.SessionFacts.{stands-runs}
+use Rattle.sender.proofs.SessionFacts.{stands-runs, has-slot, packet-said, turn-of, SameSide, FileRuns}
 use Rattle.sender.proofs.SessionViews.{ran-means, ran-hand, ran-counts, ran-stands, ran-session}
 use Rattle.sender.proofs.FdtSessionLaws.{fdt-holds-over}
 use Rattle.sender.proofs.DeskChanges.{working-stands}
-use Rattle.sender.proofs.DeskNumbers.{dropped-width}
 
 -- ---- the width of the numbers stays
 
-done-width : (now k : ℕ) (f : Fdt) → done-of now k f .tois .width ≡ f .tois .width
-unfolding done-of back-of let-go-of
-done-width now k f =
-    let y = slot-at (f .slots) k in
-    let P : Fdt → Type 0 = λ r. r .tois .width ≡ f .tois .width in
-    if-on P (sends y) (λ s. if-on P (goes-back now y) (λ g. refl) (λ g. dropped-width false (y .file .toi) (f .tois))) (λ s. refl)
-
-taken-width : (p now : ℕ) (f : Fdt) → taken-of p now f .fdt .tois .width ≡ f .tois .width
-unfolding taken-of taken-at
-taken-width p now f = maybe-on (λ (t : Taken). t .fdt .tois .width ≡ f .tois .width) (place (queue-startable (f .slots) p now) (waiting f)) (λ e. refl) (λ n e. refl)
-
 ran-by-width : (now : ℕ) (f : Fdt) (x y : SenderSession) (a : Served) → ran-by now f x y a .fdt .tois .width ≡ f .tois .width
-ran-by-width now f x y Over = done-width now (x .slot) f
+ran-by-width now f x y Over = done-keeps f now (x .slot) .width
 ran-by-width now f x y Idle = refl
 ran-by-width now f x y (Sent s) = refl
 
@@ -72,7 +60,7 @@ attended-width now f x =
 
 taken-on-width : (w now : ℕ) (f : Fdt) (x : SenderSession) → taken-on-of w now f x .fdt .tois .width ≡ f .tois .width
 unfolding taken-on-of
-taken-on-width w now f x = go (taken-of (x .priority) now f .fdt) (taken-of (x .priority) now f .answer) ∙ taken-width (x .priority) now f
+taken-on-width w now f x = go (taken-of (x .priority) now f .fdt) (taken-of (x .priority) now f .answer) ∙ taken-keeps f (x .priority) now .width
   where
     go : (t : Fdt) (a : Place) → taken-by w now t x a .fdt .tois .width ≡ t .tois .width
     go t PlaceV.Nothing = refl
@@ -255,7 +243,7 @@ module _ (s : Sender) (v : Valid s) (i now : ℕ) (h : i < s .count) where
     valid-run : Valid s′
     valid-run = record {
       holds = runs .holds;
-      fdt-holds = fdt-holds-over (s .fdt) (r .fdt) (v .fdt-holds) (runs .holds .valid) (record { settings = same .settings; announcer = same .announcer });
+      fdt-holds = fdt-holds-over (s .fdt) (r .fdt) (v .fdt-holds) (runs .holds .valid) (same .settings) (same .announcer);
       object-store = rw (same .settings) (v .object-store);
       fdt-store = rw (same .settings) (v .fdt-store);
       narrow = v .narrow;

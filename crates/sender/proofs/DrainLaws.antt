@@ -15,9 +15,9 @@ use Rattle.sizes.specs.declared.partition.Partition.{Partition}
 use Rattle.sizes.proofs.Tests.{or-left, or-right}
 use Rattle.sizes.proofs.Arithmetic.{ceil-cases, ceil-some}
 use Rattle.sizes.proofs.Lengths.{before-large, before-small}
-use Rattle.lifecycle.specs.Setup.{sound-sizes, bad-blocks}
+use Rattle.lifecycle.specs.Setup.{bad-blocks}
 use Rattle.lifecycle.proofs.FdtFacts.{if-on}
-use Rattle.lifecycle.proofs.SetupLaws.{in-range}
+use Rattle.lifecycle.proofs.SetupLaws.{in-range, sizes-sound, blocks-counted}
 use Rattle.sender.specs.EncoderCalls.{Sound, Valid, offset-of, new-of}
 use Rattle.sender.specs.EncoderPromises.{Shown, named}
 use Rattle.sender.specs.DrainCalls.{refuses}
@@ -141,5 +141,5 @@ module _ (l e b w : ℕ) where
 
 -- a transfer of nothing is admitted
 pub nothing-admitted : refuses 0 1 1 1 ≡ false
-unfolding refuses bad-blocks sound-sizes partition-of symbols-of ceil
-nothing-admitted = refl
+unfolding refuses partition-of symbols-of ceil
+nothing-admitted = blocks-counted (record { e = 1; b = 1 }) 0 (sizes-sound (record { e = 1; b = 1 }) refl refl)

@@ -1,25 +1,22 @@
 -- How many open blocks have no symbol left, and so how many leave before one is read.
 use mathlib.Core.Logic.{inr, ⊎-elim}
 use mathlib.Core.Path.{_≡_, refl, sym, _∙_, ap, subst}
-use mathlib.Core.Bool.{Bool, true, false, not}
+use mathlib.Core.Bool.{Bool, true, false}
 use mathlib.Core.Option.{some}
 use mathlib.Core.List.{List, [], _∷_, _++_}
 use Prim.Native.Nat.{ℕ, zero, suc, _+_, _≤_, _<_}
 use native.Mathlib.Omega.{arith}
-use lib.Dec.{ltb}
-use borrow.Author.Tests.{lt-leb, not-false}
+use borrow.Author.Tests.{lt-leb}
 use lib.ListN.{length, take}
 use Rattle.sizes.specs.Words.{if_then_else_, at, cut, one-if, tally}
-use Rattle.sizes.specs.Limits.{most-blocks}
-use Rattle.sizes.specs.Partition.{blocks-of, symbols-in}
+use Rattle.sizes.specs.Partition.{symbols-in}
 use Rattle.sizes.specs.declared.numbers.Sbn.{Sbn}
 use Rattle.sizes.specs.declared.partition.Partition.{Partition}
-use Rattle.sizes.proofs.Tests.{none≢some, or-left}
+use Rattle.sizes.proofs.Tests.{none≢some}
 use Rattle.sizes.proofs.Arithmetic.{below-or}
 use Rattle.sizes.proofs.Tables.{tally-le}
 use Rattle.sizes.proofs.PartitionLaws.{parted, empty-exactly}
-use Rattle.lifecycle.specs.Setup.{bad-blocks, sound-sizes}
-use Rattle.lifecycle.proofs.SetupLaws.{sizes-told}
+use Rattle.lifecycle.proofs.SetupLaws.{blocks-told}
 use Rattle.lifecycle.proofs.FdtFacts.{if-on}
 use Rattle.sender.specs.EncoderCalls.{opened-blocks, is-empty, Sound, Valid, has-room, one-opened, filled-of, place-of, stuck, without-of, drained-count, settled, ready-of}
 use Rattle.sender.specs.declared.blockencoder.Content.{Content}
@@ -43,11 +40,10 @@ module _ {A : Type 0} (p : A → Bool) where
 -- ---- a block of the object has at least one symbol
 
 pub some-symbol : (c : Content) → Sound c → (k : Sbn) → k .0 < c .partition .blocks → 1 ≤ symbols-in (c .partition) k
-unfolding bad-blocks
 some-symbol c s k = subst (λ (p : Partition). k .0 < p .blocks → 1 ≤ symbols-in p k) (sym (s .cut)) (λ h.
     let z = c .sizes in
     let l = c .part .size in
-    let t = sizes-told z (not-false (sound-sizes z) (or-left (not (sound-sizes z)) (ltb most-blocks (blocks-of z l .blocks)) (s .sizes))) in
+    let t = blocks-told z l (s .sizes) .sizes in
     let l0 : 0 < l = ⊎-elim (λ g. g) (λ g. absurd (omega (arith, empty-exactly (z .b) l (z .e) .1 (inr (inr (omega arith))) .blocks))) (below-or 0 l) in
     parted (z .b) l (z .e) (t .block .0) (t .symbol .0) .none-empty l0 k)
 

@@ -11,8 +11,8 @@ pub mod SessionLaws
 pub mod SessionRounds
 pub mod SessionTakes
 pub mod SessionViews
-pub mod FdtSessionLaws
 pub mod FdtSessionFacts
+pub mod FdtSessionLaws
 pub mod FdtSessionViews
 pub mod DeskCounts
 pub mod DeskNumbers
@@ -20,7 +20,6 @@ pub mod DeskListed
 pub mod DeskChanges
 pub mod DeskByNumber
 pub mod DeskPublish
-pub mod DeskLists
 pub mod DeskRefusals
 pub mod DeskAdds
 pub mod DeskRuns

@@ -4,14 +4,14 @@ use mathlib.Core.Path.{_≡_, refl, sym, _∙_, ap}
 use mathlib.Core.Bool.{true, false}
 use mathlib.Core.Option.{none, some}
 use mathlib.Core.List.{[], _∷_}
-use Prim.Native.Nat.{ℕ, _+_, _-_, _≤_}
+use Prim.Native.Nat.{_+_, _-_}
 use native.Mathlib.Omega.{arith}
 use lib.ListN.{length, take, drop}
-use borrow.Author.Tests.{ltb-false}
 use types.Run.{OneOf}
 use denote.Enum.Declared.{tagOf}
 use Rattle.sizes.specs.Words.{if_then_else_, maybe}
 use Rattle.lifecycle.specs.Parts.{past-store}
+pub use Rattle.lifecycle.proofs.PartLaws.{lies-in}
 use Rattle.lifecycle.specs.declared.parts.Part.{Part}
 use Rattle.definition.specs.Payload.{Store, Stores, Place, no-place, bytes-of, store-of, place-of, payload-of}
 use Rattle.sender.specs.SenderCalls.{packet-said, packet-in}
@@ -19,11 +19,6 @@ use Rattle.sender.specs.declared.sender.Packet.{Packet}
 use Rattle.sender.specs.declared.sender.RunAnswer.{RunAnswer}
 use Rattle.sender.specs.declared.sender.RunAnswer.the-variants as RunV
 use Rattle.sender.proofs.sender.RunAnswer.{the-type}
-
--- a part that does not end past a store lies in it
-pub lies-in : (n : ℕ) (c : Part) → past-store n c ≡ false → c .start + c .size ≤ n
-unfolding past-store
-lies-in n c h = ltb-false n (c .start + c .size) h
 
 -- an answer of every kind but the first has no packet
 pub no-packet : (m : Stores) (a : RunAnswer) → OneOf (1 ∷ 2 ∷ []) (tagOf the-type a) → [] ≡ payload-of m (packet-in a)

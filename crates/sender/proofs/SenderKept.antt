@@ -2,7 +2,7 @@
 use Rattle.sizes.specs.declared.refusal.Refusal.the-variants as Because
 use mathlib.Core.Path.{_≡_, refl, sym, _∙_, ap, subst}
 use mathlib.Core.Bool.{true, false, true≢false}
-use mathlib.Core.Option.{Option, none, some}
+use mathlib.Core.Option.{none}
 use mathlib.Core.List.{List, [], _∷_}
 use Prim.Native.Nat.{ℕ, zero, suc, _<_, _≤_}
 use native.Mathlib.Omega.{arith}
@@ -11,6 +11,7 @@ use lib.ListN.{length, getD, set}
 use Rattle.lifecycle.specs.Slots.{slot-at}
 use Rattle.sizes.specs.Words.{any, given}
 use Rattle.lifecycle.proofs.FdtFacts.{if-on}
+use Rattle.lifecycle.proofs.FdtByNumber.{given-none}
 use Rattle.lifecycle.specs.FdtCalls.{draft-said, real-draft, draft-test-of, is-added-of, transfers-said, transfers-of, reserved-of, released-of, added-of, removed-of, triggered-of, completed-of}
 use Rattle.lifecycle.specs.declared.parts.Part.{Part}
 use Rattle.lifecycle.specs.declared.filedesc.Time.{Time}
@@ -23,18 +24,19 @@ use Rattle.lifecycle.specs.declared.fdt.Transfers.{Transfers}
 use Rattle.definition.specs.Desk as Def
 use Rattle.sender.specs.SessionCalls.{Holds, idle-of, ran-of}
 use Rattle.sender.specs.FdtSessionCalls.{FdtHolds, fdt-ran-of}
-use Rattle.sender.specs.SenderCalls.{Valid, Kept, working, with-list, admission-said, has-priority, request-of, reserving-of, releasing-of, removing-of, prompting-of, completing-of, publishing-of, adding-of, answer-of, running-of, draft-answer, fdt-running-by, fdt-running-of, RunsFdt, RunsFile, Reserves, Releases, Removes, Prompts, Lists, Totals, Completes, Publishes, Adds}
+use Rattle.sender.specs.SenderCalls.{Valid, Kept, working, with-list, has-priority, request-of, reserving-of, releasing-of, removing-of, prompting-of, completing-of, publishing-of, adding-of, answer-of, running-of, draft-answer, fdt-running-by, fdt-running-of, RunsFdt, RunsFile, Reserves, Releases, Removes, Prompts, Lists, Totals, Completes, Publishes, Adds}
 use Rattle.sender.specs.declared.sender.Sender.{Sender}
 use Rattle.sender.specs.declared.sender.Object.{Object}
 use Rattle.sender.specs.declared.sender.Adding.{Adding}
-use Rattle.sender.specs.declared.sender.AddAnswer.the-variants as AddV
+use Rattle.lifecycle.specs.declared.fdt.Admission.the-variants as AdmissionV
 use Rattle.sender.specs.declared.sender.RunAnswer.the-variants as RunV
 use Rattle.sender.specs.declared.sender.Running.{Running}
 use Rattle.sender.specs.declared.sendersession.SenderSession.{SenderSession}
 use Rattle.sender.specs.declared.sendersession.Ran.{Ran}
 use Rattle.sender.specs.declared.fdtsession.FdtRan.{FdtRan}
 use Rattle.sender.proofs.SessionLaws.{holds-added, holds-removed, holds-triggered, holds-published, holds-reserved, holds-released, holds-completed}
-use Rattle.sender.proofs.FdtSessionLaws.{SameSide, fdt-holds-over, fdt-holds-published, same-completed, same-reserved, same-released, same-added, same-removed, same-triggered}
+use Rattle.lifecycle.proofs.FdtKeeps.{ObjectsOnly, reserved-keeps, released-keeps, added-keeps, removed-keeps, triggered-keeps}
+use Rattle.sender.proofs.FdtSessionLaws.{fdt-holds-over, fdt-holds-published}
 use Rattle.sender.proofs.DeskNumbers.{reserve-kept, release-kept, complete-kept}
 use Rattle.sender.proofs.DeskListed.{listed-kept, transfers-kept}
 use Rattle.sender.proofs.DeskByNumber.{remove-kept, trigger-kept}
@@ -45,32 +47,32 @@ use Rattle.sender.proofs.DeskFdtRuns.{run-fdt-kept}
 
 module _ (s : Sender) (v : Valid s) where
   -- a list that has the same FDT side
-  beside : (r : Fdt) → Holds r → SameSide (s .fdt) r → FdtHolds r
-  beside r h e = fdt-holds-over (s .fdt) r (v .fdt-holds) (h .valid) e
+  beside : (r : Fdt) → Holds r → ObjectsOnly (s .fdt) r → FdtHolds r
+  beside r h e = fdt-holds-over (s .fdt) r (v .fdt-holds) (h .valid) (e .settings) (e .announcer)
 
   pub reserves : Reserves s (reserving-of s)
   unfolding reserving-of
   reserves =
       let h = holds-reserved (s .fdt) (v .holds) in
-      record { exact = refl; kept = reserve-kept s v h (beside (reserved-of (s .fdt) .fdt) h (same-reserved (s .fdt))) }
+      record { exact = refl; kept = reserve-kept s v h (beside (reserved-of (s .fdt) .fdt) h (reserved-keeps (s .fdt))) }
 
   pub releases : (t : ℕ) → Releases t s (releasing-of t s)
   unfolding releasing-of
   releases t =
       let h = holds-released (s .fdt) (v .holds) t in
-      record { exact = refl; kept = release-kept t s v h (beside (released-of t (s .fdt) .fdt) h (same-released (s .fdt) t)) }
+      record { exact = refl; kept = release-kept t s v h (beside (released-of t (s .fdt) .fdt) h (released-keeps (s .fdt) t)) }
 
   pub removes : (t : ℕ) → Removes t s (removing-of t s)
   unfolding removing-of
   removes t =
       let h = holds-removed (s .fdt) (v .holds) t in
-      record { exact = refl; kept = remove-kept s t v h (beside (removed-of t (s .fdt) .fdt) h (same-removed (s .fdt) t)) }
+      record { exact = refl; kept = remove-kept s t v h (beside (removed-of t (s .fdt) .fdt) h (removed-keeps (s .fdt) t)) }
 
   pub prompts : (t : ℕ) (start : Time) → Prompts t start s (prompting-of t start s)
   unfolding prompting-of
   prompts t start =
       let h = holds-triggered (s .fdt) (v .holds) t start in
-      record { exact = refl; kept = trigger-kept s t start v h (beside (triggered-of t start (s .fdt) .fdt) h (same-triggered (s .fdt) t start)) }
+      record { exact = refl; kept = trigger-kept s t start v h (beside (triggered-of t start (s .fdt) .fdt) h (triggered-keeps (s .fdt) t start)) }
 
   pub lists : (t : ℕ) → Lists t s (is-added-of t (s .fdt))
   lists t = record { exact = refl; kept = listed-kept s v t }
@@ -81,7 +83,7 @@ module _ (s : Sender) (v : Valid s) where
   pub completes : Completes s (completing-of s)
   completes =
       let h = holds-completed (s .fdt) (v .holds) in
-      record { exact = refl; kept = complete-kept s v h (beside (completed-of (s .fdt)) h (same-completed (s .fdt))) }
+      record { exact = refl; kept = complete-kept s v h (fdt-holds-over (s .fdt) (completed-of (s .fdt)) (v .fdt-holds) (h .valid) refl refl) }
 
   pub publishes : (now : ℕ) (c : Part) → Publishes now c s (publishing-of now c s)
   unfolding publishing-of
@@ -96,19 +98,19 @@ module _ (s : Sender) (v : Valid s) where
     exact = refl;
     kept = add-kept o named v
         (if-on (λ (r : Adding). Holds (r .sender .fdt)) (any (has-priority (o .priority)) (working s)) (λ e. admits) (λ e. v .holds))
-        (if-on (λ (r : Adding). FdtHolds (r .sender .fdt)) (any (has-priority (o .priority)) (working s)) (λ e. beside (added-of (s .fdt) (request-of o) named .fdt) admits (same-added (s .fdt) (request-of o) named)) (λ e. v .fdt-holds));
+        (if-on (λ (r : Adding). FdtHolds (r .sender .fdt)) (any (has-priority (o .priority)) (working s)) (λ e. beside (added-of (s .fdt) (request-of o) named .fdt) admits (added-keeps (s .fdt) (request-of o) named)) (λ e. v .fdt-holds));
   }
     where
       admits : Holds (added-of (s .fdt) (request-of o) named .fdt)
       admits = holds-added (s .fdt) (v .holds) (v .object-store) (request-of o) named
 
 -- the two cases of an add
-pub add-refused : (o : Object) (named : Named) (s : Sender) → any (has-priority (o .priority)) (working s) ≡ false → adding-of o named s ≡ record { answer = AddV.Refused Because.NoPriority; sender = s }
+pub add-refused : (o : Object) (named : Named) (s : Sender) → any (has-priority (o .priority)) (working s) ≡ false → adding-of o named s ≡ record { answer = AdmissionV.Refused Because.NoPriority; sender = s }
 unfolding adding-of
 add-refused o named s e = rw e
 
 pub add-goes : (o : Object) (named : Named) (s : Sender) → any (has-priority (o .priority)) (working s) ≡ true
-    → adding-of o named s ≡ record { answer = admission-said (added-of (s .fdt) (request-of o) named .answer); sender = with-list s (added-of (s .fdt) (request-of o) named .fdt) }
+    → adding-of o named s ≡ record { answer = added-of (s .fdt) (request-of o) named .answer; sender = with-list s (added-of (s .fdt) (request-of o) named .fdt) }
 unfolding adding-of
 add-goes o named s e = rw e
 
@@ -143,10 +145,6 @@ pub read-session : (s : Sender) → Valid s → (i : ℕ) (z : SenderSession) �
 read-session s v i z h = let a = v .few in let b = v .long in get-same (s .sessions) i z (idle-of 0) (omega arith)
 
 -- ---- a run of the FDT session
-
-given-none : {A : Type 0} (o : Option A) → given o ≡ false → o ≡ none
-given-none none e = refl
-given-none (some n) e = absurd (true≢false e)
 
 -- a draft that is refused
 pub fdt-refused : (now : ℕ) (draft : Draft) (s : Sender) (t : DraftTest) → draft-said t ≡ draft-test-of (real-draft draft) (s .fdt) → given (draft-said t) ≡ true

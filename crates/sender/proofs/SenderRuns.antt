@@ -1,44 +1,43 @@
 -- Runs of the code are the definition's, call by call, and so keep its promises; a refused call leaves the sender as it was.
-use Rattle.sizes.specs.declared.refusal.Refusal.{Refusal}
-use Rattle.sender.proofs.SetupCallsLaws.{OpeningKept, opening-kept}
 use mathlib.Core.Path.{_≡_, refl, sym, _∙_, ap, subst}
-use mathlib.Core.Bool.{Bool, true, false, not, _&&_, _||_, false≢true}
+use mathlib.Core.Bool.{Bool, true, false, not, _&&_, false≢true}
 use mathlib.Core.Option.{Option, none, some}
 use mathlib.Core.List.{List, [], _∷_, map}
-use lib.ListN.{length}
-use Rattle.sizes.specs.Limits.{most-sessions}
 use Prim.Native.Nat.{ℕ}
-use lib.Dec.{eqb, ltb, leb}
-use lib.ListN.{getD}
+use lib.Dec.{ltb}
+use lib.ListN.{length, getD}
 use Rattle.sizes.specs.Words.{if_then_else_, given, any, place}
-use Rattle.sizes.specs.Limits.{toi-entries, waiting-fdts}
+use Rattle.sizes.specs.Limits.{most-sessions, toi-entries}
 use Rattle.sizes.specs.Allocator as Alloc
+use Rattle.sizes.specs.declared.refusal.Refusal.{Refusal}
 use Rattle.sizes.specs.declared.toiallocator.Allocated.{Allocated}
 use Rattle.sizes.specs.declared.toiallocator.Changed.{Changed}
-use Rattle.lifecycle.specs.Setup.{sound, bad-blocks}
+use Rattle.lifecycle.specs.Setup.{sound}
 use Rattle.lifecycle.specs.Setup.{Setup as DefSetup}
 use Rattle.lifecycle.specs.Slots.{slot-at}
-use Rattle.lifecycle.specs.Announce.{bad-fdt-of}
-use Rattle.lifecycle.specs.FdtCalls.{with-tois, reserved-of, released-of, added-of, own-of, publish-of, publication-said, real-draft, draft-test-of}
-use Rattle.lifecycle.specs.FdtMeans.{ListAdds}
+use Rattle.lifecycle.specs.FdtCalls.{with-tois, added-of, own-of, publication-said, real-draft, draft-test-of}
+use Rattle.lifecycle.proofs.FdtMeans.{ListAdds}
 use Rattle.lifecycle.specs.declared.parts.Part.{Part}
 use Rattle.lifecycle.specs.declared.announce.Draft.{Draft}
 use Rattle.lifecycle.specs.declared.fdt.Added.{Added}
 use Rattle.lifecycle.specs.declared.fdt.Named.{Named}
+use Rattle.lifecycle.specs.declared.fdt.Reserved.{Reserved}
+use Rattle.lifecycle.specs.declared.fdt.Released.{Released}
 use Rattle.lifecycle.specs.declared.fdt.Published.{Published}
 use Rattle.lifecycle.proofs.FdtFacts.{if-on, maybe-on}
+use Rattle.lifecycle.proofs.FdtKeeps.{reserved-as, released-as, publish-refusal-of, published-by, publish-as}
 use Rattle.lifecycle.proofs.FdtAdds.{added-view}
 use Rattle.definition.specs.Desk as Def
 use Rattle.definition.specs.Apart as Apart
-use Rattle.definition.specs.Apart.{about, key, noted, call-by, answer-by, turned-away, refusal-in}
+use Rattle.definition.specs.Apart.{about, key, noted, call-by, answer-by, turned-away, refusal-in, NumberOf}
 use Rattle.definition.specs.TotalPromises as Total
 use Rattle.definition.proofs.Reachable as Reached
 use Rattle.definition.proofs.OnlyThese.{demand-3-sound}
 use Rattle.sender.specs.SessionCalls.{idle-of, ran-of}
 use Rattle.sender.specs.FdtSessionCalls.{fdt-ran-of}
-use Rattle.sender.specs.SenderCalls.{desk-of, Agrees, Valid, Kept, working, with-list, has-priority, request-of, admission-said, alloc-answer, add-answer, file-answer, fdt-answer, answer-of, reserving-of, releasing-of, adding-of, publishing-of, running-of, fdt-running-by, fdt-running-of}
+use Rattle.sender.specs.SenderCalls.{desk-of, Agrees, Valid, Kept, working, with-list, has-priority, request-of, alloc-answer, add-answer, file-answer, fdt-answer, answer-of, reserving-of, releasing-of, adding-of, publishing-of, running-of, fdt-running-by, fdt-running-of}
 use Rattle.sender.specs.SetupCalls.{setup-said, opening-of}
-use Rattle.sender.specs.SenderRuns.{Call, call-said, answered, played, RefusedKeeps, code-calls, code-answers, code-smooth, Promised}
+use Rattle.sender.specs.SenderRuns.{Call, call-said, answered, played, RefusedKeeps, code-calls, code-answers, code-smooth, CodeNumbers, Promised}
 use Rattle.sender.specs.declared.sendersession.Served.{Served}
 use Rattle.sender.specs.declared.sendersession.Served.the-variants as ServedV
 use Rattle.sender.specs.declared.sender.Sender.{Sender}
@@ -47,6 +46,7 @@ use Rattle.sender.specs.declared.sender.Adding.{Adding}
 use Rattle.sender.specs.declared.sender.Running.{Running}
 use Rattle.sender.specs.declared.setup.Setup.{Setup}
 use Rattle.sender.proofs.SenderKept as Keeps
+use Rattle.sender.proofs.SetupCallsLaws.{OpeningKept, opening-kept}
 use Rattle.sender.proofs.DeskListed.{transfers-kept}
 
 -- ---- one call
@@ -119,6 +119,13 @@ module _ (u : DefSetup) (p : ℕ) where
       ap (λ (x : Bool). not (turned-away p (call-said c) (answered s c .0)) && x) (smooth-view (answered s c .1) (k .valid) (k .agrees u w) l)
       ∙ ap (λ (x : Def.Result). not (turned-away p (call-said c) (x .0)) && Apart.smooth u p (x .1) (map call-said l)) (sym (k .means u w))
 
+  pub own-numbers-view : (j : List ℕ) (s : Sender) → Valid s → Agrees u s → (l : List Call) → Apart.OwnNumbers u p j (desk-of s) (map call-said l) → CodeNumbers p j s l
+  own-numbers-view j s v w [] h = tt
+  own-numbers-view j s v w (c ∷ l) h =
+      let k = answered-kept s v c in
+      let q = subst (λ (x : Def.Result). (about p (desk-of s) (call-said c) ≡ true → NumberOf (noted p (call-said c) (x .0) j) (x .0)) × Apart.OwnNumbers u p (noted p (call-said c) (x .0) j) (x .1) (map call-said l)) (k .means u w) h in
+      (q .0, own-numbers-view (noted p (call-said c) (answered s c .0) j) (answered s c .1) (k .valid) (k .agrees u w) l (q .1))
+
 -- ---- refused calls
 
 -- is the answer a refusal
@@ -138,19 +145,21 @@ served-file toi (ServedV.Sent y) = refl
 
 module _ (s : Sender) where
   refused-reserve : refuses (alloc-answer (Alloc.given-said (reserving-of s .answer))) → reserving-of s .sender ≡ s
-  unfolding reserving-of reserved-of Alloc.allocated-of
-  refused-reserve = if-on (λ (x : Allocated). refuses (alloc-answer (Alloc.given-said (x .answer))) → with-list s (with-tois (s .fdt) (x .allocator)) ≡ s) (ltb (s .fdt .tois .entered) toi-entries)
-      (λ h e. absurd (false≢true e)) (λ h e. refl)
+  unfolding reserving-of Alloc.allocated-of
+  refused-reserve = subst (λ (r : Reserved). refuses (alloc-answer (Alloc.given-said (r .answer))) → with-list s (r .fdt) ≡ s) (sym (reserved-as (s .fdt)))
+      (if-on (λ (x : Allocated). refuses (alloc-answer (Alloc.given-said (x .answer))) → with-list s (with-tois (s .fdt) (x .allocator)) ≡ s) (ltb (s .fdt .tois .entered) toi-entries)
+      (λ h e. absurd (false≢true e)) (λ h e. refl))
 
   refused-release : (t : ℕ) → refuses (alloc-answer (Alloc.known-said (releasing-of t s .answer))) → releasing-of t s .sender ≡ s
-  unfolding releasing-of released-of Alloc.dropped-of
-  refused-release t = maybe-on (λ (x : Changed). refuses (alloc-answer (Alloc.known-said (x .answer))) → with-list s (with-tois (s .fdt) (x .allocator)) ≡ s) (place (Alloc.entry-is t true) (Alloc.noted (s .fdt .tois)))
-      (λ h e. refl) (λ i h e. absurd (false≢true e))
+  unfolding releasing-of Alloc.dropped-of
+  refused-release t = subst (λ (r : Released). refuses (alloc-answer (Alloc.known-said (r .answer))) → with-list s (r .fdt) ≡ s) (sym (released-as (s .fdt) t))
+      (maybe-on (λ (x : Changed). refuses (alloc-answer (Alloc.known-said (x .answer))) → with-list s (with-tois (s .fdt) (x .allocator)) ≡ s) (place (Alloc.entry-is t true) (Alloc.noted (s .fdt .tois)))
+      (λ h e. refl) (λ i h e. absurd (false≢true e)))
 
   refused-added : (o : Object) (named : Named) (r : Added) → ListAdds (s .fdt) (request-of o) (own-of (request-of o .own) (s .fdt .settings .sizes)) named r
-      → refuses (add-answer (admission-said (r .answer))) → with-list s (r .fdt) ≡ s
+      → refuses (add-answer (r .answer)) → with-list s (r .fdt) ≡ s
   refused-added o named r (ListAdds.refused a h) e = ap (λ (x : Added). with-list s (x .fdt)) h
-  refused-added o named r (ListAdds.admits k t h) e = absurd (false≢true (sym (ap (λ x. given (refusal-in (add-answer (admission-said x)))) (h .answer)) ∙ e))
+  refused-added o named r (ListAdds.admits k t h) e = absurd (false≢true (sym (ap (λ x. given (refusal-in (add-answer x))) (h .answer)) ∙ e))
 
   refused-add : Valid s → (o : Object) (named : Named) → refuses (add-answer (adding-of o named s .answer)) → adding-of o named s .sender ≡ s
   unfolding adding-of
@@ -158,12 +167,12 @@ module _ (s : Sender) where
       (λ h. refused-added o named (added-of (s .fdt) (request-of o) named) (added-view (s .fdt) (v .holds .valid) (request-of o) named)) (λ h e. refl)
 
   refused-publish : (now : ℕ) (c : Part) → refuses (alloc-answer (publication-said (publishing-of now c s .answer))) → publishing-of now c s .sender ≡ s
-  unfolding publishing-of publish-of
-  refused-publish now c =
-      let P : Published → Type 0 = λ x. (refuses (alloc-answer (publication-said (x .answer))) → with-list s (x .fdt) ≡ s) in
-      if-on P (bad-blocks (s .fdt .settings .sizes) (c .size)) (λ h e. refl) (λ h.
-      if-on P (bad-fdt-of (s .fdt .settings .«fdt_store») c (s .fdt .announcer) || eqb (c .size) 0) (λ h e. refl) (λ h.
-      if-on P (leb waiting-fdts (s .fdt .announcer .waiting)) (λ h e. refl) (λ h e. absurd (false≢true e))))
+  unfolding publishing-of
+  refused-publish now c = subst (λ (r : Published). refuses (alloc-answer (publication-said (r .answer))) → with-list s (r .fdt) ≡ s) (sym (publish-as c (s .fdt) now)) (by (publish-refusal-of c (s .fdt)))
+    where
+      by : (o : Option Refusal) → refuses (alloc-answer (publication-said (published-by c (s .fdt) now o .answer))) → with-list s (published-by c (s .fdt) now o .fdt) ≡ s
+      by none e = absurd (false≢true e)
+      by (some why) e = refl
 
   refused-fdt-run : (now : ℕ) (draft : Draft) (x : Option Refusal) → refuses (fdt-answer (fdt-running-by now draft s x .taken) (fdt-running-by now draft s x .answer)) → fdt-running-by now draft s x .sender ≡ s
   refused-fdt-run now draft none e = let r = fdt-ran-of (s .window) now draft (s .fdt) (s .«fdt_session») in absurd (false≢true (sym (served-fdt (r .taken) (r .session .id) (r .answer)) ∙ e))
@@ -230,4 +239,5 @@ promised z long ok =
           ∙ sym (opening-answers z o p m);
       only-these = λ p l a. opening-answers z o p l ∙ demand-3-sound u ok p .only-these-calls (map call-said l) (opening-smooth z o p l a) .same-answers;
       only-calls = λ p l a. demand-3-sound u ok p .only-these-calls (map call-said l) (opening-smooth z o p l a) .same-calls ∙ sym (opening-calls z o p l);
+      numbers-got = λ p l. own-numbers-view u p [] (opening-of z) (o .valid) (o .agrees) l (subst (λ d. Apart.OwnNumbers u p [] d (map call-said l)) (sym (o .means)) (demand-3-sound u ok p .numbers-got (map call-said l)));
     }

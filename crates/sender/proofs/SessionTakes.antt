@@ -11,15 +11,15 @@ use Rattle.sizes.proofs.Lists.{at-map}
 use Rattle.sizes.proofs.Tables.{find-map, drop-map}
 use Rattle.lifecycle.specs.Lifecycle.{is-last}
 use Rattle.lifecycle.specs.FileDesc.{plan-of, life-of, startable-file}
-use Rattle.lifecycle.specs.FdtCalls.{waiting, files}
+use Rattle.lifecycle.specs.FdtCalls.{file-at, waiting, files}
 use Rattle.lifecycle.specs.FdtCalls.{Valid as ListValid}
 use Rattle.lifecycle.specs.FdtCalls.{started-slot}
-use Rattle.lifecycle.specs.FdtMeans.{file-at}
 use Rattle.lifecycle.specs.declared.filedesc.FileDesc.{FileDesc}
 use Rattle.lifecycle.specs.declared.slots.Slot.{Slot}
 use Rattle.lifecycle.specs.declared.fdt.Fdt.{Fdt}
 use Rattle.lifecycle.proofs.FileDescLaws.{life-started, pace-view}
 use Rattle.lifecycle.proofs.FdtFacts.{waits-at}
+use Rattle.lifecycle.proofs.TakesKeep.{startable-as}
 use Rattle.definition.specs.Encoder as DefEncoder
 use Rattle.definition.specs.Session as Def
 use Rattle.sender.specs.EncoderCalls.{new-of}
@@ -51,8 +51,8 @@ files-unsent f v n o e =
     subst (λ (a : FileDesc). a .life .transferring ≡ false) (h .2) (waits-at f v n (h .0) (h .1) .unsent)
 
 startable-same : (p now : ℕ) (o : FileDesc) → o .life .transferring ≡ false → Def.startable p now (object-of o) ≡ startable-file p now o
-unfolding Def.startable startable-file
-startable-same p now o e = rw e
+unfolding Def.startable
+startable-same p now o e = sym (startable-as p now o e)
 
 module _ (f : Fdt) (v : ListValid f) (p now : ℕ) where
   pub find-startable : find (Def.startable p now) (queue-of f) ≡ over object-of (find (startable-file p now) (files f))

@@ -44,8 +44,6 @@ use Rattle.sender.specs.declared.sendersession.Served.the-variants as Se
 use Rattle.sender.specs.declared.sender.Sender.{Sender}
 use Rattle.sender.specs.declared.sender.Object.{Object}
 use Rattle.sender.specs.declared.sender.Packet.{Packet}
-use Rattle.sender.specs.declared.sender.AddAnswer.{AddAnswer}
-use Rattle.sender.specs.declared.sender.AddAnswer.the-variants as AddV
 use Rattle.sender.specs.declared.sender.RunAnswer.{RunAnswer}
 use Rattle.sender.specs.declared.sender.RunAnswer.the-variants as RunV
 use Rattle.sender.specs.declared.sender.Reserving.{Reserving}
@@ -118,9 +116,9 @@ alloc-answer (Alloc.Said.toi n) = Def.Answer.number n
 alloc-answer Alloc.Said.done = Def.Answer.done
 alloc-answer (Alloc.Said.refused n) = Def.Answer.refused n
 
-abbrev pub add-answer : AddAnswer → Def.Answer
-add-answer (AddV.Toi t) = Def.Answer.number t
-add-answer (AddV.Refused why) = Def.Answer.refused why
+abbrev pub add-answer : Admission → Def.Answer
+add-answer (AdmissionV.Toi t) = Def.Answer.number t
+add-answer (AdmissionV.Refused why) = Def.Answer.refused why
 
 abbrev pub packet-said : Packet → DefPacket
 packet-said p = record { id = if p .«is_fdt» then some (p .«fdt_id») else none; toi = p .toi; symbol = symbol-said (p .symbol) }
@@ -194,15 +192,11 @@ has-priority p x = eqb (x .priority) p
 unfoldable pub request-of : Object → Request
 request-of o = record { priority = o .priority; part = o .part; own = o .own; rule = rule-named (o .most) (o .carousel) (o .target) (o .«stop_at_once»); start = o .start }
 
-abbrev pub admission-said : Admission → AddAnswer
-admission-said (AdmissionV.Toi t) = AddV.Toi t
-admission-said (AdmissionV.Refused why) = AddV.Refused why
-
 unfoldable pub adding-of : Object → Named → Sender → Adding
 adding-of o named s =
     if any (has-priority (o .priority)) (working s)
-    then (let r = added-of (s .fdt) (request-of o) named in record { answer = admission-said (r .answer); sender = with-list s (r .fdt) })
-    else record { answer = AddV.Refused Because.NoPriority; sender = s }
+    then (let r = added-of (s .fdt) (request-of o) named in record { answer = r .answer; sender = with-list s (r .fdt) })
+    else record { answer = AdmissionV.Refused Because.NoPriority; sender = s }
 
 -- the answer of a session's run
 abbrev pub answer-of : Bool → ℕ → ℕ → Served → RunAnswer

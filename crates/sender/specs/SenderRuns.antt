@@ -14,7 +14,7 @@ use Rattle.lifecycle.specs.declared.announce.Draft.{Draft}
 use Rattle.lifecycle.specs.declared.fdt.Named.{Named}
 use Rattle.definition.specs.Desk as Def
 use Rattle.definition.specs.Apart as Apart
-use Rattle.definition.specs.Apart.{about, key, noted, call-by, answer-by, turned-away, refusal-in}
+use Rattle.definition.specs.Apart.{about, key, noted, call-by, answer-by, turned-away, refusal-in, NumberOf}
 use Rattle.definition.specs.TotalPromises as Total
 use Rattle.sender.specs.SenderCalls.{desk-of, Valid, alloc-answer, add-answer, file-answer, fdt-answer, named-said, object-said, reserving-of, releasing-of, adding-of, removing-of, prompting-of, completing-of, publishing-of, running-of, fdt-running-of}
 use Rattle.sender.specs.SetupCalls.{setup-said, opening-of}
@@ -98,6 +98,14 @@ module _ (p : ℕ) where
   code-smooth s [] = true
   code-smooth s (c ∷ l) = let r = answered s c in not (turned-away p (call-said c) (r .0)) && code-smooth (r .1) l
 
+  -- every answer to a call about the priority names only numbers that its admissions got until then, among them j
+  abbrev pub CodeNumbers : List ℕ → Sender → List Call → Type 0
+  CodeNumbers j s [] = Unit {0}
+  CodeNumbers j s (c ∷ l) =
+      let r = answered s c in
+      let j′ = noted p (call-said c) (r .0) j in
+      (about p (desk-of s) (call-said c) ≡ true → NumberOf j′ (r .0)) × CodeNumbers j′ (r .1) l
+
   -- two runs of the code from the same set-up, with the same calls about the priority, are answered alike but for object numbers
   abbrev pub CodeAlike : Setup → Type 0
   CodeAlike z = (l m : List Call) → code-smooth (opening-of z) l ≡ true → code-smooth (opening-of z) m ≡ true
@@ -120,3 +128,5 @@ pub record Promised (z : Setup) : Type 0 where
       → code-answers p [] (opening-of z) l ≡ Apart.answers (setup-said z) p [] (Def.opening (setup-said z)) (Apart.lone (setup-said z) p (map call-said l))
   pub only-calls : (p : ℕ) (l : List Call) → code-smooth p (opening-of z) l ≡ true
       → Apart.calls (setup-said z) p [] (Def.opening (setup-said z)) (Apart.lone (setup-said z) p (map call-said l)) ≡ code-calls p [] (opening-of z) l
+  -- its answers name only numbers that its admissions got
+  pub numbers-got : (p : ℕ) (l : List Call) → CodeNumbers p [] (opening-of z) l

@@ -7,7 +7,7 @@ ghost use Rattle.sizes.specs.Limits.{object-slots};
 ghost use Rattle.lifecycle.specs.Slots.{slot-at};
 ghost use Rattle.lifecycle.specs.FdtCalls.{draft-said};
 ghost use Rattle.sender.specs.SessionCalls.{idle-of};
-ghost use Rattle.sender.specs.SenderCalls.{Valid, has-priority, with-list, with-session, with-fdt-session, answer-of, request-of, admission-said, draft-answer, Reserves, Releases, Adds, Removes, Prompts, Lists, Totals, Completes, Publishes, RunsFdt, RunsFile};
+ghost use Rattle.sender.specs.SenderCalls.{Valid, has-priority, with-list, with-session, with-fdt-session, answer-of, request-of, draft-answer, Reserves, Releases, Adds, Removes, Prompts, Lists, Totals, Completes, Publishes, RunsFdt, RunsFile};
 use crate::blockencoder::Symbol;
 use crate::fdtsession::FdtSession;
 use crate::sendersession::SenderSession;
@@ -62,12 +62,6 @@ pub struct Packet {
     pub symbol: Symbol,
 }
 
-// The number of an admitted object, or why it is refused.
-pub enum AddAnswer {
-    Toi(u64),
-    Refused(Refusal),
-}
-
 // What a run gives, or why it is refused.
 pub enum RunAnswer {
     Packet(Packet),
@@ -86,7 +80,7 @@ pub struct Releasing {
 }
 
 pub struct Adding {
-    pub answer: AddAnswer,
+    pub answer: Admission,
     pub sender: Sender,
 }
 
@@ -139,16 +133,6 @@ fn request(o: Object) -> Request
         own,
         rule: Rule::new(o.most, carousel, target, o.stop_at_once),
         start,
-    }
-}
-
-// The same answer, for the host.
-fn add_answer(a: Admission) -> AddAnswer
-    ensures { λ r. ⌜ r ≡ admission-said a ⌝ }
-{
-    match a {
-        Admission::Toi(t) => AddAnswer::Toi(t),
-        Admission::Refused(why) => AddAnswer::Refused(why),
     }
 }
 
@@ -336,7 +320,7 @@ impl Sender {
     {
         if !self.has_priority(o.priority) {
             return Adding {
-                answer: AddAnswer::Refused(Refusal::NoPriority),
+                answer: Admission::Refused(Refusal::NoPriority),
                 sender: self,
             };
         }
@@ -344,7 +328,7 @@ impl Sender {
         let answer = r.answer;
         self = self.with_fdt(r.fdt);
         Adding {
-            answer: add_answer(answer),
+            answer,
             sender: self,
         }
     }

@@ -3,7 +3,7 @@ use mathlib.Core.Path.{_≡_}
 use mathlib.Core.Bool.{Bool, true, false, not, _&&_, _||_}
 use mathlib.Core.Option.{none, some}
 use mathlib.Core.List.{List, [], _∷_, _++_, map}
-use Prim.Native.Nat.{ℕ, _+_, _-_, _<_}
+use Prim.Native.Nat.{ℕ, _<_}
 use lib.Dec.{eqb, ltb}
 use lib.ListN.{length, getD}
 use Rattle.sizes.specs.declared.refusal.Refusal.{Refusal}
@@ -15,7 +15,7 @@ use Rattle.sizes.specs.declared.partition.Sizes.{Sizes}
 use Rattle.sizes.specs.declared.toiallocator.ToiAllocator.{ToiAllocator}
 use Rattle.lifecycle.specs.FileDesc.{with-life, reset-life, published-life, startable-file}
 use Rattle.lifecycle.specs.Slots.{no-slot, slot-at, place-said, is-free, is-listed-as}
-use Rattle.lifecycle.specs.FdtCalls.{waiting, files, sends, used, refuses, new-slot, unlisted-slot, started-slot, ended-file, ended-slot, goes-back}
+use Rattle.lifecycle.specs.FdtCalls.{waiting, file-at, files, sends, used, refuses, new-slot, unlisted-slot, started-slot, ended-file, ended-slot, goes-back}
 use Rattle.lifecycle.specs.declared.filedesc.Time.{Time}
 use Rattle.lifecycle.specs.declared.filedesc.FileDesc.{FileDesc}
 use Rattle.lifecycle.specs.declared.slots.Slot.{Slot}
@@ -25,17 +25,12 @@ use Rattle.lifecycle.specs.declared.fdt.Fdt.{Fdt}
 use Rattle.lifecycle.specs.declared.fdt.Named.{Named}
 use Rattle.lifecycle.specs.declared.fdt.Named.the-variants as NamedV
 use Rattle.lifecycle.specs.declared.fdt.Request.{Request}
-use Rattle.lifecycle.specs.declared.fdt.Admission.{Admission}
 use Rattle.lifecycle.specs.declared.fdt.Admission.the-variants as AdmissionV
 use Rattle.lifecycle.specs.declared.fdt.Added.{Added}
 use Rattle.lifecycle.specs.declared.fdt.Told.{Told}
 use Rattle.lifecycle.specs.declared.fdt.Taken.{Taken}
 
 -- ---- a slot
-
--- the object in a slot
-abbrev pub file-at : List Slot → ℕ → FileDesc
-file-at t k = slot-at t k .file
 
 -- is it not the object with this number
 abbrev pub is-not : ℕ → FileDesc → Bool
@@ -109,13 +104,35 @@ full NamedV.Anew f = not (given (place is-free (f .slots))) || not (ltb (f .tois
 
 -- ---- remove
 
--- nobody listed has the number; or it is in transfer, and only the list lets go; or it waits, and is free from now on
+-- nobody listed has the number, and nothing has changed
+pub record FindsNobody (t : ℕ) (f : Fdt) (r : Told) : Type 0 where
+  pub unlisted : (k : ℕ) → is-listed-as t (slot-at (f .slots) k) ≡ false
+  pub queue : files f ≡ keep (is-not t) (files f)
+  pub unchanged : r ≡ record { yes = false; fdt = f }
+
+-- it is in transfer from slot k, and only the list lets go
+pub record Unlists (t : ℕ) (f : Fdt) (k : ℕ) (r : Told) : Type 0 where
+  pub found : Listed t f k
+  pub is-sent : sends (slot-at (f .slots) k) ≡ true
+  pub queue : files f ≡ keep (is-not t) (files f)
+  pub answer : r .yes ≡ true
+  pub tois : r .fdt .tois ≡ f .tois
+  pub view : Seen f (files f) k (unlisted-slot (slot-at (f .slots) k)) (r .fdt)
+
+-- it waits in slot k, at place n of the queue, and is free from now on
+pub record Frees (t : ℕ) (f : Fdt) (k n : ℕ) (r : Told) : Type 0 where
+  pub found : Listed t f k
+  pub waits : Waits f n k
+  pub queue : cut (files f) n ≡ keep (is-not t) (files f)
+  pub answer : r .yes ≡ true
+  pub number : Freed t (f .tois) (r .fdt .tois)
+  pub view : Seen f (cut (files f) n) k no-slot (r .fdt)
+
+-- one of the three
 pub data Removal (t : ℕ) (f : Fdt) (r : Told) : Type 0 where
-  nobody : ((k : ℕ) → is-listed-as t (slot-at (f .slots) k) ≡ false) → files f ≡ keep (is-not t) (files f) → r ≡ record { yes = false; fdt = f } → Removal t f r
-  sent : (k : ℕ) → Listed t f k → sends (slot-at (f .slots) k) ≡ true → files f ≡ keep (is-not t) (files f) → r .yes ≡ true → r .fdt .tois ≡ f .tois
-      → Seen f (files f) k (unlisted-slot (slot-at (f .slots) k)) (r .fdt) → Removal t f r
-  waited : (k n : ℕ) → Listed t f k → Waits f n k → cut (files f) n ≡ keep (is-not t) (files f) → r .yes ≡ true → Freed t (f .tois) (r .fdt .tois)
-      → Seen f (cut (files f) n) k no-slot (r .fdt) → Removal t f r
+  nobody : FindsNobody t f r → Removal t f r
+  sent : (k : ℕ) → Unlists t f k r → Removal t f r
+  waited : (k n : ℕ) → Frees t f k n r → Removal t f r
 
 -- is it on the list once the object with the number is off it
 abbrev pub listed-but : ℕ → Slot → Bool
