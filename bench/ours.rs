@@ -1,4 +1,4 @@
-//! Our sender: the functions of crates/host/src/calls.rt, and the structs that they take and give.
+//! Our sender: the functions of crates/saltdoodle/src/calls.rt, and the structs that they take and give.
 
 use crate::case::{Case, Fields, CLOCK, FDT_LENGTH, HOUR};
 
@@ -101,11 +101,11 @@ pub struct Sent {
 }
 
 extern "C" {
-    fn sender_set_up(s: &mut Sender, z: PlainSetup) -> u32;
-    fn sender_add(s: &mut Sender, o: PlainObject) -> Numbered;
-    fn sender_publish(s: &mut Sender, at: u64, part: Part) -> u32;
-    fn sender_run_fdt(s: &mut Sender, at: u64, draft: Part) -> Sent;
-    fn sender_run(s: &mut Sender, i: u64, at: u64) -> Sent;
+    fn sd_set_up(s: &mut Sender, z: PlainSetup) -> u32;
+    fn sd_add(s: &mut Sender, o: PlainObject) -> Numbered;
+    fn sd_publish(s: &mut Sender, at: u64, part: Part) -> u32;
+    fn sd_run_fdt(s: &mut Sender, at: u64, draft: Part) -> Sent;
+    fn sd_run(s: &mut Sender, i: u64, at: u64) -> Sent;
 }
 
 fn set_up_of(case: &Case) -> PlainSetup {
@@ -167,16 +167,16 @@ impl Ours {
         let mut ours = Ours(words);
         // The library's functions keep to what they are lent; that it is long enough is tested below.
         unsafe {
-            assert_eq!(sender_set_up(&mut ours.0, set_up_of(case)), 0);
+            assert_eq!(sd_set_up(&mut ours.0, set_up_of(case)), 0);
             for k in 0..case.objects {
-                let answer = sender_add(&mut ours.0, object_of(case, k));
+                let answer = sd_add(&mut ours.0, object_of(case, k));
                 assert_eq!((answer.refused, answer.toi), (0, 1 + k as u64));
             }
             let whole = Part {
                 start: 0,
                 size: FDT_LENGTH as u64,
             };
-            assert_eq!(sender_publish(&mut ours.0, CLOCK, whole), 0);
+            assert_eq!(sd_publish(&mut ours.0, CLOCK, whole), 0);
         }
         assert!(
             ours.0 .0[ROOM / 2..].iter().all(|w| *w == UNTOUCHED),
@@ -186,12 +186,12 @@ impl Ours {
     }
 
     pub fn run_fdt(&mut self) -> Sent {
-        unsafe { sender_run_fdt(&mut self.0, CLOCK, Part { start: 0, size: 0 }) }
+        unsafe { sd_run_fdt(&mut self.0, CLOCK, Part { start: 0, size: 0 }) }
     }
 
     #[inline]
     pub fn run(&mut self, session: usize) -> Sent {
-        unsafe { sender_run(&mut self.0, session as u64, CLOCK) }
+        unsafe { sd_run(&mut self.0, session as u64, CLOCK) }
     }
 }
 
