@@ -26,7 +26,7 @@ use Rattle.sender.specs.declared.sendersession.Served.the-variants as ServedV
 use Rattle.sender.proofs.EncoderReads.{glance-steps}
 use Rattle.host_structs.specs.Answers.{run-told}
 use Rattle.host_structs.specs.declared.answers.Sent.{Sent}
-use Rattle.fast_run.specs.Settle.{Valid, settled-as}
+use Rattle.fast_run.specs.Settle.{ValidSession, settled-as}
 use Rattle.fast_run.specs.Quick.{is-due, no-numbers, numbers-by, numbers-of, with-esi, with-index, Quick, Glances}
 use Rattle.fast_run.specs.declared.quick.Numbers.{Numbers}
 use Rattle.fast_run.specs.declared.Settled.{Settled}
@@ -78,7 +78,7 @@ unforced : (t : Slot) → t .listed ≡ true → false ≡ forced-slot t
 unfolding forced-slot
 unforced t h = rw (h, and-false)
 
-module _ (w now : ℕ) (t : Slot) (x : SenderSession) (ok : Valid x) (b : Bool) (asked : b ≡ is-due w now t x) where
+module _ (w now : ℕ) (t : Slot) (x : SenderSession) (ok : ValidSession x) (b : Bool) (asked : b ≡ is-due w now t x) where
   -- no numbers settle nothing
   unsettled : (r : Numbers) → r ≡ no-numbers → r .done ≡ true → Quick w now t x r
   unsettled r q d = absurd (true≢false (sym d ∙ ap (λ (n : Numbers). n .done) q))

@@ -17,7 +17,7 @@ use Rattle.host_structs.specs.Answers.{run-told}
 use Rattle.fast_run.specs.declared.Settled.{Settled}
 
 -- where an object is in hand, its encoder belongs to its partition
-pub record Valid (x : SenderSession) : Type 0 where
+pub record ValidSession (x : SenderSession) : Type 0 where
   pub busy : x .busy ≡ true → EncoderValid (x .encoder)
 
 -- is the run settled; what the host is told; the session after it

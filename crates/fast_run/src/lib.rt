@@ -7,7 +7,7 @@ ghost use Rattle.sender.specs.SenderCalls.{answer-of};
 ghost use Rattle.sender.specs.SessionCalls.{forced-slot};
 ghost use Rattle.sender.specs.declared.sender.RunAnswer.the-variants as RunV;
 ghost use Rattle.sender.specs.declared.sendersession.Served.the-variants as ServedV;
-ghost use Rattle.fast_run.specs.Settle.{Valid, settled-as, settled-of};
+ghost use Rattle.fast_run.specs.Settle.{ValidSession, settled-as, settled-of};
 use host_structs::answers::Sent;
 use host_structs::answers::run_told;
 use lifecycle::slots::Slot;
@@ -66,7 +66,7 @@ fn is_forced(t: Slot) -> bool
 
 // With nothing in hand, or at the end of a transfer, the run is not settled here.
 pub fn settle(x: SenderSession, t: Slot, waiting: usize, now: u64) -> Settled
-    requires { ⌜ Valid x ⌝ }
+    requires { ⌜ ValidSession x ⌝ }
     ensures { λ r. ⌜ r ≡ settled-of waiting now t x ⌝ }
 {
     if x.busy {

@@ -1,6 +1,6 @@
 // A packet in the middle of a transfer: it changes three numbers of the session and nothing else.
 ghost use mathlib.Core.Path.{_≡_};
-ghost use Rattle.fast_run.specs.Settle.{Valid};
+ghost use Rattle.fast_run.specs.Settle.{ValidSession};
 ghost use Rattle.fast_run.specs.Quick.{Glances, no-numbers, is-due};
 use host_structs::answers::Sent;
 use host_structs::answers::run_told;
@@ -23,7 +23,7 @@ pub struct Numbers {
 }
 
 // Not such a packet: zeros.
-fn none() -> Numbers
+fn no_numbers() -> Numbers
     ensures { λ r. ⌜ r ≡ no-numbers ⌝ }
 {
     Numbers {
@@ -54,13 +54,13 @@ fn is_due(x: SenderSession, t: Slot, waiting: usize, now: u64) -> bool
 
 // The numbers after the packet that is due, where it only moves its block on; zeros for any other run.
 pub fn glance(x: SenderSession, t: Slot, waiting: usize, now: u64) -> Numbers
-    requires { ⌜ Valid x ⌝ }
+    requires { ⌜ ValidSession x ⌝ }
     ensures { λ r. ⌜ Glances waiting now t x r ⌝ }
 {
     if is_due(x, t, waiting, now) {
         let g = x.encoder.glance();
         let Glance::One(v) = g else {
-            return none();
+            return no_numbers();
         };
         let symbol = v.symbol;
         let pace = x.pace;
@@ -80,5 +80,5 @@ pub fn glance(x: SenderSession, t: Slot, waiting: usize, now: u64) -> Numbers
             answer: run_told(false, RunAnswer::Packet(packet)),
         };
     }
-    none()
+    no_numbers()
 }

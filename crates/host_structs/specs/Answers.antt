@@ -21,23 +21,23 @@ use Rattle.host_structs.specs.declared.answers.Numbered.{Numbered}
 use Rattle.host_structs.specs.declared.answers.Counted.{Counted}
 use Rattle.host_structs.specs.declared.answers.Sent.{Sent}
 
-abbrev pub numbered : ℕ → Numbered
-numbered n = record { refused = 0; toi = n }
+abbrev pub toi-told : ℕ → Numbered
+toi-told n = record { refused = 0; toi = n }
 
-abbrev pub unnumbered : ℕ → Numbered
-unnumbered n = record { refused = n; toi = 0 }
+abbrev pub toi-refused : ℕ → Numbered
+toi-refused n = record { refused = n; toi = 0 }
 
 abbrev pub given-told : Given → Numbered
-given-told (Number n) = numbered n
-given-told Full = unnumbered (refusal-number Because.Full)
+given-told (Number n) = toi-told n
+given-told Full = toi-refused (refusal-number Because.Full)
 
 abbrev pub known-told : Known → ℕ
 known-told Done = 0
 known-told Unknown = refusal-number Because.NotLoose
 
 abbrev pub add-told : AddAnswer → Numbered
-add-told (AddV.Toi t) = numbered t
-add-told (AddV.Refused why) = unnumbered (refusal-number why)
+add-told (AddV.Toi t) = toi-told t
+add-told (AddV.Refused why) = toi-refused (refusal-number why)
 
 abbrev pub publication-told : Publication → ℕ
 publication-told PublicationV.Done = 0

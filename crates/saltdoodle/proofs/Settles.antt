@@ -5,7 +5,7 @@ use Prim.Native.Nat.{ℕ, _<_, _≤_, _+_, _*_, _^_}
 use native.Mathlib.Omega.{arith}
 use native.Mathlib.Nat.{add-assoc}
 use borrow.Table.Elements.{at, at-mul}
-use lib.Dec.{T, ltb}
+use lib.Dec.{ltb}
 use borrow.Author.Tests.{ltb-true, ltb-false}
 use lib.ListN.{getD}
 use Rattle.sizes.specs.Words.{if_then_else_}
@@ -31,8 +31,7 @@ use Rattle.sender.specs.declared.sender.Sender.{Sender}
 use Rattle.sender.proofs.SenderKept.{runs, run-goes, ran-sender}
 use Rattle.host_structs.specs.Answers.{run-told}
 use Rattle.host_structs.specs.declared.answers.Sent.{Sent}
-use Rattle.fast_run.specs.Settle.{settled-as, settled-by, settled-of}
-use Rattle.fast_run.specs.Settle.{Valid as SessionValid}
+use Rattle.fast_run.specs.Settle.{ValidSession, settled-as, settled-by, settled-of}
 use Rattle.fast_run.specs.declared.Settled.{Settled}
 use Rattle.fast_run.specs.Quick.{Quick, stepped}
 use Rattle.fast_run.specs.declared.quick.Numbers.{Numbers}
@@ -60,7 +59,7 @@ module _ (s : Sender) (ok : Valid s) (i : ℕ) where
   used : session-at s i .busy ≡ true → i < s .count
   used e = of-order (i < s .count) i (s .count) (λ h. h) (λ h. absurd (true≢false (sym e ∙ ap (λ (x : SenderSession). x .busy) (ok .spare i h))))
 
-  pub session-valid : SessionValid (session-at s i)
+  pub session-valid : ValidSession (session-at s i)
   session-valid = record { busy = λ e. ok .sessions i (used e) .busy e .encoder }
 
   pub slot-below : session-at s i .slot < 32
@@ -140,10 +139,6 @@ glances s ok i now r q = settles s ok i now (record { done = true; answer = r .a
 
 pub small-open : (p : ℕ) → p < 16 → p * 8 < 2 ^ 64
 small-open p lt = omega arith
-
-pub is-true : (b : Bool) → T b → b ≡ true
-is-true true z = refl
-is-true false z = absurd z
 
 pub small : (n : ℕ) → n < 4 → n * 264 < 2 ^ 64
 small n lt = omega arith

@@ -7,13 +7,15 @@ use Prim.Native.Nat.{ℕ}
 use lib.ListN.{length, take, drop}
 use Rattle.sizes.specs.Partition.{sbn, esi}
 use Rattle.sizes.specs.Words.{if_then_else_, maybe, over}
+use Rattle.sizes.specs.Refusals.{refusal-number}
+use Rattle.sizes.specs.declared.refusal.Refusal.the-variants as Because
 use Rattle.lifecycle.specs.Parts.{past-store}
 use Rattle.lifecycle.specs.declared.parts.Part.{Part}
 use Rattle.definition.specs.FdtSession.{Packet}
 use Rattle.definition.specs.Payload.{Store, Stores, bytes-of, Place, no-place, place-of, payload-of}
 use Rattle.sender.specs.SenderCalls.{packet-said, packet-in}
 use Rattle.sender.specs.declared.sender.RunAnswer.{RunAnswer}
-use Rattle.wire.specs.Record.{Said, done, fields, refused, write-answer, write-buffer, Reads}
+use Rattle.wire.specs.Record.{RecordAnswer, done, fields, refused, write-answer, write-buffer, RecordReads}
 use Rattle.wire.specs.declared.record.Record.{Record}
 use Rattle.wire.specs.declared.record.Writing.{Writing}
 use Rattle.wire.specs.declared.record.Writing.the-variants as WritingV
@@ -36,8 +38,8 @@ PacketKept = (taken : Bool) (a : RunAnswer) → packet-sent (run-told taken a) �
 abbrev pub store-named : Bool → Store
 store-named of-fdt = if of-fdt then Store.fdts else Store.objects
 
-abbrev pub place-said : PayloadPlace → Place
-place-said r = record { store = store-named (r .«of_fdt»); part = record { start = r .start; size = r .size } }
+abbrev pub place-named : PayloadPlace → Place
+place-named r = record { store = store-named (r .«of_fdt»); part = record { start = r .start; size = r .size } }
 
 -- a part of a store of this length, if the store has it
 abbrev pub place-in : Bool → ℕ → Part → Place
@@ -45,7 +47,7 @@ place-in of-fdt n c = if past-store n c then no-place else record { store = stor
 
 -- for any stores of these lengths, it is the payload's place, and the bytes there are the payload
 pub record PayloadTold (object-store fdt-store : ℕ) (s : Sent) (r : PayloadPlace) : Type 0 where
-  pub place : (m : Stores) → length (m .of-objects) ≡ object-store → length (m .of-fdts) ≡ fdt-store → place-said r ≡ place-of m (packet-sent s)
+  pub place : (m : Stores) → length (m .of-objects) ≡ object-store → length (m .of-fdts) ≡ fdt-store → place-named r ≡ place-of m (packet-sent s)
   pub bytes : (m : Stores) → length (m .of-objects) ≡ object-store → length (m .of-fdts) ≡ fdt-store → take (r .size) (drop (r .start) (bytes-of m (store-named (r .«of_fdt»)))) ≡ payload-of m (packet-sent s)
 
 -- its record
@@ -54,17 +56,17 @@ record-sent s = over record-of (packet-sent s)
 
 abbrev pub writing-told : Writing → ℕ
 writing-told WritingV.Done = 0
-writing-told WritingV.Refused = 9
+writing-told WritingV.Refused = refusal-number Because.Record
 
 -- what a write says, in numbers
-abbrev pub said-told : Said → ℕ
+abbrev pub said-told : RecordAnswer → ℕ
 said-told done = 0
 said-told (fields r) = 0
-said-told (refused n) = n
+said-told (refused why) = refusal-number why
 
 -- the record of the packet is written into the buffer, or refused; with no packet it is refused
 pub record RecordTold (s : Sent) (before : List ℕ) (answer : ℕ) (after : List ℕ) : Type 0 where
-  pub said : answer ≡ maybe 9 (λ r. said-told (write-answer before r)) (record-sent s)
+  pub said : answer ≡ maybe (refusal-number Because.Record) (λ r. said-told (write-answer before r)) (record-sent s)
   pub buffer : after ≡ maybe before (write-buffer before) (record-sent s)
 
 abbrev pub fields-told : Record → PlainRecord
@@ -87,10 +89,10 @@ unread n = record { refused = n; «is_fdt» = false; close = false; «fdt_id» =
 
 abbrev pub reading-told : Reading → PlainRecord
 reading-told (ReadingV.Fields r) = fields-told r
-reading-told ReadingV.Refused = unread 9
+reading-told ReadingV.Refused = unread (refusal-number Because.Record)
 
 -- there is a result of the read, with all that is promised of it, and the host is told it
 pub record FieldsTold (bs : List ℕ) (answer : PlainRecord) : Type 0 where
   pub result : Reading
-  pub promised : Reads bs result
+  pub promised : RecordReads bs result
   pub said : answer ≡ reading-told result

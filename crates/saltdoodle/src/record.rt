@@ -2,15 +2,17 @@
 ghost use mathlib.Core.Path.{_≡_};
 ghost use Rattle.definition.specs.Payload.{no-place};
 ghost use Rattle.sender.specs.SenderCalls.{packet-in};
-ghost use Rattle.saltdoodle.specs.Record.{packet-sent, place-said, place-in, PayloadTold, writing-told, fields-told, reading-told, RecordTold, FieldsTold};
+ghost use Rattle.saltdoodle.specs.Record.{packet-sent, place-named, place-in, PayloadTold, writing-told, fields-told, reading-told, RecordTold, FieldsTold};
 use host_structs::answers::Sent;
 use lifecycle::parts::Part;
 use lifecycle::parts::ends_past;
 use packet_record::PacketRecord;
-use packet_record::record_of;
+use packet_record::answer_record;
 use sender::sender::RunAnswer;
 use sizes::numbers::Esi;
 use sizes::numbers::Sbn;
+use sizes::refusal::Refusal;
+use sizes::refusal::number_of;
 use wire::record::Reading;
 use wire::record::Record;
 use wire::record::Writing;
@@ -56,7 +58,7 @@ fn writing_told(a: Writing) -> u32
 {
     match a {
         Writing::Done => 0,
-        Writing::Refused => 9,
+        Writing::Refused => number_of(Refusal::Record),
     }
 }
 
@@ -85,7 +87,7 @@ fn reading_told(a: Reading) -> PlainRecord
     match a {
         Reading::Fields(r) => fields_told(r),
         Reading::Refused => PlainRecord {
-            refused: 9,
+            refused: number_of(Refusal::Record),
             is_fdt: false,
             close: false,
             fdt_id: 0,
@@ -100,8 +102,8 @@ fn reading_told(a: Reading) -> PlainRecord
 }
 
 // No payload: the empty part of the object store.
-fn nowhere() -> PayloadPlace
-    ensures { λ r. ⌜ place-said r ≡ no-place ⌝ }
+fn no_place() -> PayloadPlace
+    ensures { λ r. ⌜ place-named r ≡ no-place ⌝ }
 {
     PayloadPlace {
         of_fdt: false,
@@ -112,10 +114,10 @@ fn nowhere() -> PayloadPlace
 
 // A part of a store of this length, if the store has it.
 fn place_in(of_fdt: bool, store: u64, c: Part) -> PayloadPlace
-    ensures { λ r. ⌜ place-said r ≡ place-in «of_fdt» store c ⌝ }
+    ensures { λ r. ⌜ place-named r ≡ place-in «of_fdt» store c ⌝ }
 {
     if ends_past(store, c) {
-        return nowhere();
+        return no_place();
     }
     PayloadPlace {
         of_fdt,
@@ -138,7 +140,7 @@ pub extern "C" fn sd_payload(object_store: u64, fdt_store: u64, s: Sent) -> Payl
         }
         return place_in(false, object_store, c);
     }
-    nowhere()
+    no_place()
 }
 
 // Writes the packet's record. Refused, with nothing written, where there is no packet, or one that has no record.
@@ -146,9 +148,9 @@ pub extern "C" fn sd_payload(object_store: u64, fdt_store: u64, s: Sent) -> Payl
 pub extern "C" fn sd_record_write(out: &mut [u8; 28], s: Sent) -> u32
     ensures { λ r. ⌜ RecordTold s (now (out .entry)) r (now (out .exit)) ⌝ }
 {
-    match record_of(answer_in(s)) {
+    match answer_record(answer_in(s)) {
         PacketRecord::Fields(r) => writing_told(write(out, r)),
-        PacketRecord::NoPacket => 9,
+        PacketRecord::NoPacket => number_of(Refusal::Record),
     }
 }
 

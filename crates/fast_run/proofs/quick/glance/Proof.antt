@@ -19,8 +19,8 @@ enum-known-g c = search needs
 enum-told : tie.Need-enum-told
 enum-told c = search needs
 
-none-requires : tie.Need-none-requires
-none-requires c κs = search needs
+no-numbers-requires : tie.Need-no-numbers-requires
+no-numbers-requires c κs = search needs
 
 returns : tie.Need-returns
 returns c =
@@ -28,7 +28,7 @@ returns c =
     let u = l .before in
     let s = u .before .before in
     let a = s .args in
-    declines (a .waiting) (a .now) (a .t) (a .x) (s .pre) _ (u .before .is-due .ensures) (u .if1 .taken) _ (l .glance .ensures) (c .before .enum-told .given .1) _ (c .none .ensures)
+    declines (a .waiting) (a .now) (a .t) (a .x) (s .pre) _ (u .before .is-due .ensures) (u .if1 .taken) _ (l .glance .ensures) (c .before .enum-told .given .1) _ (c .no-numbers .ensures)
 
 ticked-requires : tie.Need-ticked-requires
 ticked-requires c κs = search needs
@@ -67,15 +67,15 @@ returns-2 c =
     let a = s .args in
     glances (a .waiting) (a .now) (a .t) (a .x) (s .pre) _ (u .before .is-due .ensures) (u .if1 .taken) _ (l .glance .ensures) _ (g .g .given .1) _ (n .ticked .ensures) _ (c .run-told .ensures)
 
-none-requires-2 : tie.Need-none-requires-2
-none-requires-2 c κs = search needs
+no-numbers-requires-2 : tie.Need-no-numbers-requires-2
+no-numbers-requires-2 c κs = search needs
 
 returns-3 : tie.Need-returns-3
 returns-3 c =
     let u = c .before in
     let s = u .before .before in
     let a = s .args in
-    passes (a .waiting) (a .now) (a .t) (a .x) (s .pre) _ (u .before .is-due .ensures) (u .if1 .left) _ (c .none2 .ensures)
+    passes (a .waiting) (a .now) (a .t) (a .x) (s .pre) _ (u .before .is-due .ensures) (u .if1 .left) _ (c .no-numbers2 .ensures)
 
 pub glance-spec : {M : Type 1} → statement M
 glance-spec =
@@ -85,12 +85,12 @@ glance-spec =
     glance-requires
     enum-known-g
     enum-told
-    none-requires
+    no-numbers-requires
     returns
     ticked-requires
     add-t12
     add-t14
     run-told-requires
     returns-2
-    none-requires-2
+    no-numbers-requires-2
     returns-3)

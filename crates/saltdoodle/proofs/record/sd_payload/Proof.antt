@@ -16,13 +16,13 @@ place-in-requires-2 c κs = search needs
 returns-2 : tie.Need-returns-2
 returns-2 c = of-an-object _ _ _ _ (c .before .before .before .before .before .if1 .taken) (c .before .if2 .left) (c .place-in2 .ensures)
 
-nowhere-requires : tie.Need-nowhere-requires
-nowhere-requires c κs = search needs
+no-place-requires : tie.Need-no-place-requires
+no-place-requires c κs = search needs
 
 returns-3 : tie.Need-returns-3
-returns-3 c = of-none _ _ _ _ (c .before .if1 .left) (c .nowhere .ensures)
+returns-3 c = of-none _ _ _ _ (c .before .if1 .left) (c .no-place .ensures)
 
 pub sd-payload-spec : {M : Type 1} → statement M
 sd-payload-spec =
     tie.close
-    (tie.spec place-in-requires returns place-in-requires-2 returns-2 nowhere-requires returns-3)
+    (tie.spec place-in-requires returns place-in-requires-2 returns-2 no-place-requires returns-3)

@@ -1,9 +1,9 @@
--- `wire::record::fields_of` meets its contract.
+-- `wire::record::record_in` meets its contract.
 use mathlib.Core.Path.{refl}
 use borrow.Author.Needs.{needs}
 use Rattle.wire.specs.RecordWords.{record-in}
-use Rattle.wire.proofs.record.fields_of.Statement.{statement}
-use Rattle.wire.proofs.record.fields_of.Tie as tie
+use Rattle.wire.proofs.record.record_in.Statement.{statement}
+use Rattle.wire.proofs.record.record_in.Tie as tie
 
 cast-fdt-id : tie.Need-cast-fdt-id
 cast-fdt-id c = search needs
@@ -36,8 +36,8 @@ returns : tie.Need-returns
 unfolding record-in
 returns c = refl
 
-pub fields-of-spec : {M : Type 1} → statement M
-fields-of-spec =
+pub record-in-spec : {M : Type 1} → statement M
+record-in-spec =
     tie.close
     (tie.spec
     cast-fdt-id

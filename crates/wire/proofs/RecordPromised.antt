@@ -9,21 +9,23 @@ use borrow.Author.Tests.{lt-leb, le-leb, leb-true, eqb-true, eqb-false, eq-eqb, 
 use lib.Dec.{eqb, leb}
 use lib.ListN.{length, take, drop, length-append, length-drop}
 use lib.Seq.{take-at, drop-at}
+use Rattle.sizes.specs.declared.refusal.Refusal.{Refusal}
+use Rattle.sizes.specs.declared.refusal.Refusal.the-variants as Because
 use Rattle.sizes.proofs.Tests.{Tested, pass, fail, tested, and-left, and-right}
 use Rattle.sizes.proofs.Arithmetic.{below-or}
-use Rattle.wire.specs.Packing.{values, total, join, fits, split, fields as fields·of, bytes-of, number-of}
-use Rattle.wire.specs.Record.{bits, layout, with-values, padding, record-widths, record-size, well-named, good, written, values-in, Said, done, fields, refused, write-said, read-said, writable, write-answer, write-buffer, Writes, readable, read-answer, Reads}
-use Rattle.wire.specs.RecordPromises.{Bytes, Fault, wide-id, wide-toi, wide-block, wide-symbol, wide-length, wide-total, wide-symbols, no-toi, toi-of-fdt, id-of-object, WriteFault, ReadFault, WritePromised, ReadPromised, Promised}
+use Rattle.wire.specs.Packing.{total, join, fields-fit, split-bits, last-bytes, number-spelled}
+use Rattle.wire.specs.Record.{in-bits, layout, with-values, padding, record-widths, record-size, well-named, good, written, values-in, RecordAnswer, done, fields, refused, writing-said, reading-said, writable, write-answer, write-buffer, RecordWrites, readable, read-answer, RecordReads}
+use Rattle.wire.specs.RecordPromises.{Bytes, Fault, wide-id, wide-toi, wide-block, wide-symbol, wide-length, wide-total, wide-symbols, no-toi, toi-of-fdt, id-of-object, WriteFault, ReadFault, WritePromised, ReadPromised, RecordPromised}
 use Rattle.wire.specs.declared.record.Record.{Record}
 use Rattle.wire.specs.declared.record.Writing.{Writing}
 use Rattle.wire.specs.declared.record.Reading.{Reading}
-use Rattle.wire.proofs.PackingLaws.{join-below, join-split-below, number-below, number-bytes, bytes-number, bytes-length}
+use Rattle.wire.proofs.PackingLaws.{field-values, with-widths, join-below, join-split-below, number-below, number-bytes, bytes-number, bytes-length}
 use Rattle.wire.proofs.RecordLaws.{Fit, fit-fits, good-fit, wide-bad, fit-good, fdt-named, no-number, object-named, bit-flag, values-back, values-spelt, read-good}
 
 -- a fault, or none
 named-bad : (r : Record) → well-named r ≡ false → good r ≡ false
 unfolding good
-named-bad r e = go (fits (layout r))
+named-bad r e = go (fields-fit (layout r))
   where
     go : (t : Bool) → (t && well-named r) ≡ false
     go true = e
@@ -69,22 +71,22 @@ bad-fault r b =
     wide-id (below-or (r .«fdt_id») (2 ^ 20))
 
 -- done is no refusal, and fields are none
-done≢refused : (n : ℕ) → done ≡ refused n → ⊥
-done≢refused n e = let z : _≡_ {A = ℕ} 0 1 = cc in omega arith
+done≢refused : (why : Refusal) → done ≡ refused why → ⊥
+done≢refused why e = let z : _≡_ {A = ℕ} 0 1 = cc in omega arith
 
-fields≢refused : (r : Record) (n : ℕ) → fields r ≡ refused n → ⊥
-fields≢refused r n e = let z : _≡_ {A = ℕ} 0 1 = cc in omega arith
+fields≢refused : (r : Record) (why : Refusal) → fields r ≡ refused why → ⊥
+fields≢refused r why e = let z : _≡_ {A = ℕ} 0 1 = cc in omega arith
 
 -- THE RECORD IS READ BACK: its bytes spell its number, and so hold its values
 pub written-length : (r : Record) → length (written r) ≡ record-size
 unfolding written
 written-length r = bytes-length record-size (join (layout r))
 
-spells : (r : Record) → Fit r → number-of (written r) ≡ join (layout r)
+spells : (r : Record) → Fit r → number-spelled (written r) ≡ join (layout r)
 unfolding written layout total
 spells r f = number-bytes record-size (join (layout r)) (join-below (layout r) (fit-fits r f))
 
-no-padding : (r : Record) → padding (values (layout r)) ≡ 0
+no-padding : (r : Record) → padding (field-values (layout r)) ≡ 0
 unfolding padding layout
 no-padding r = refl
 
@@ -94,55 +96,55 @@ read-written r g =
     sym (read-good (written r) r (written-length r) (ap padding v ∙ no-padding r) (ap with-values v ∙ values-back r) g .answer)
 
 -- WRITTEN AGAIN: values split out of a number are those of the record that has them
-layout-back : (n : ℕ) → padding (split record-widths n) ≡ 0 → layout (with-values (split record-widths n)) ≡ fields·of record-widths (split record-widths n)
-unfolding padding split record-widths layout with-values fields·of total
+layout-back : (n : ℕ) → padding (split-bits record-widths n) ≡ 0 → layout (with-values (split-bits record-widths n)) ≡ with-widths record-widths (split-bits record-widths n)
+unfolding padding split-bits record-widths layout with-values with-widths total
 layout-back n p = λ i.
-    bits 1 (bit-flag (n / 2 ^ 223) i)
-    ∷ bits 1 (bit-flag (n / 2 ^ 222) i)
-    ∷ bits 20 (n / 2 ^ 202 % 2 ^ 20)
-    ∷ bits 64 (n / 2 ^ 138 % 2 ^ 64)
-    ∷ bits 16 (n / 2 ^ 122 % 2 ^ 16)
-    ∷ bits 16 (n / 2 ^ 106 % 2 ^ 16)
-    ∷ bits 16 (n / 2 ^ 90 % 2 ^ 16)
-    ∷ bits 48 (n / 2 ^ 42 % 2 ^ 48)
-    ∷ bits 16 (n / 2 ^ 26 % 2 ^ 16)
-    ∷ bits 26 (sym p i)
+    in-bits 1 (bit-flag (n / 2 ^ 223) i)
+    ∷ in-bits 1 (bit-flag (n / 2 ^ 222) i)
+    ∷ in-bits 20 (n / 2 ^ 202 % 2 ^ 20)
+    ∷ in-bits 64 (n / 2 ^ 138 % 2 ^ 64)
+    ∷ in-bits 16 (n / 2 ^ 122 % 2 ^ 16)
+    ∷ in-bits 16 (n / 2 ^ 106 % 2 ^ 16)
+    ∷ in-bits 16 (n / 2 ^ 90 % 2 ^ 16)
+    ∷ in-bits 48 (n / 2 ^ 42 % 2 ^ 48)
+    ∷ in-bits 16 (n / 2 ^ 26 % 2 ^ 16)
+    ∷ in-bits 26 (sym p i)
     ∷ []
 
-in-28 : (bs : List ℕ) → Bytes bs → length bs ≡ record-size → number-of bs < 2 ^ total record-widths
+in-28 : (bs : List ℕ) → Bytes bs → length bs ≡ record-size → number-spelled bs < 2 ^ total record-widths
 unfolding total record-widths layout with-values
-in-28 bs b h = subst (λ k. number-of bs < 2 ^ total (lib.ListN.replicate k 8)) h (number-below bs b)
+in-28 bs b h = subst (λ k. number-spelled bs < 2 ^ total (lib.ListN.replicate k 8)) h (number-below bs b)
 
 pub written-back : (bs : List ℕ) → Bytes bs → length bs ≡ record-size → padding (values-in bs) ≡ 0 → written (with-values (values-in bs)) ≡ bs
 unfolding written values-in
 written-back bs b h p =
-    ap (λ fs. bytes-of record-size (join fs)) (layout-back (number-of bs) p)
-    ∙ ap (bytes-of record-size) (join-split-below record-widths (number-of bs) (in-28 bs b h))
-    ∙ ap (λ k. bytes-of k (number-of bs)) (sym h)
+    ap (λ fs. last-bytes record-size (join fs)) (layout-back (number-spelled bs) p)
+    ∙ ap (last-bytes record-size) (join-split-below record-widths (number-spelled bs) (in-28 bs b h))
+    ∙ ap (λ k. last-bytes k (number-spelled bs)) (sym h)
     ∙ bytes-number bs b
 
 -- one write
-module _ (before : List ℕ) (r : Record) (a : Writing) (after : List ℕ) (w : Writes before r a after) where
-  yes : writable before r ≡ true → (write-said a ≡ done) × (after ≡ written r ++ drop record-size before)
+module _ (before : List ℕ) (r : Record) (a : Writing) (after : List ℕ) (w : RecordWrites before r a after) where
+  yes : writable before r ≡ true → (writing-said a ≡ done) × (after ≡ written r ++ drop record-size before)
   unfolding write-answer write-buffer
   yes e = (w .answer ∙ rw e, w .buffer ∙ rw e)
 
-  no : writable before r ≡ false → (write-said a ≡ refused 9) × (after ≡ before)
+  no : writable before r ≡ false → (writing-said a ≡ refused Because.Record) × (after ≡ before)
   unfolding write-answer write-buffer
   no e = (w .answer ∙ rw e, w .buffer ∙ rw e)
 
-  was-yes : write-said a ≡ done → writable before r ≡ true
+  was-yes : writing-said a ≡ done → writable before r ≡ true
   was-yes s = go (tested (writable before r))
     where
       go : Tested (writable before r) → writable before r ≡ true
       go (pass e) = e
-      go (fail e) = absurd (done≢refused 9 (sym s ∙ no e .0))
+      go (fail e) = absurd (done≢refused Because.Record (sym s ∙ no e .0))
 
-  was-no : write-said a ≡ refused 9 → writable before r ≡ false
+  was-no : writing-said a ≡ refused Because.Record → writable before r ≡ false
   was-no s = go (tested (writable before r))
     where
       go : Tested (writable before r) → writable before r ≡ false
-      go (pass e) = absurd (done≢refused 9 (sym (yes e .0) ∙ s))
+      go (pass e) = absurd (done≢refused Because.Record (sym (yes e .0) ∙ s))
       go (fail e) = e
 
   room : writable before r ≡ true → record-size ≤ length before
@@ -184,7 +186,7 @@ module _ (before : List ℕ) (r : Record) (a : Writing) (after : List ℕ) (w : 
     reads-back = back;
   }
     where
-      all-done : (WriteFault before r → ⊥) → Tested (writable before r) → write-said a ≡ done
+      all-done : (WriteFault before r → ⊥) → Tested (writable before r) → writing-said a ≡ done
       all-done n (pass e) = yes e .0
       all-done n (fail e) = absurd (n (no-faulty e))
 
@@ -197,37 +199,37 @@ module _ (before : List ℕ) (r : Record) (a : Writing) (after : List ℕ) (w : 
           ap length (yes e .1) ∙ length-append (written r) (drop record-size before) ∙ omega (arith, written-length r, length-drop record-size before, room e)
       as-long (fail e) = ap length (no e .1)
 
-      back : (b : Reading) → write-said a ≡ done → Reads (take record-size after) b → read-said b ≡ fields r
+      back : (b : Reading) → writing-said a ≡ done → RecordReads (take record-size after) b → reading-said b ≡ fields r
       back b s q =
           let e = was-yes s in
           let t : take record-size after ≡ written r = ap (take record-size) (yes e .1) ∙ take-at (written r) (drop record-size before) record-size (written-length r) in
           q .answer ∙ ap read-answer t ∙ read-written r (fine e)
 
 -- one read
-module _ (bs : List ℕ) (a : Reading) (b : Bytes bs) (q : Reads bs a) where
+module _ (bs : List ℕ) (a : Reading) (b : Bytes bs) (q : RecordReads bs a) where
   found : Record
   found = with-values (values-in bs)
 
-  got : readable bs ≡ true → read-said a ≡ fields found
+  got : readable bs ≡ true → reading-said a ≡ fields found
   unfolding read-answer found
   got e = q .answer ∙ rw e
 
-  not-got : readable bs ≡ false → read-said a ≡ refused 9
+  not-got : readable bs ≡ false → reading-said a ≡ refused Because.Record
   unfolding read-answer
   not-got e = q .answer ∙ rw e
 
-  was-got : (r : Record) → read-said a ≡ fields r → readable bs ≡ true
+  was-got : (r : Record) → reading-said a ≡ fields r → readable bs ≡ true
   was-got r s = go (tested (readable bs))
     where
       go : Tested (readable bs) → readable bs ≡ true
       go (pass e) = e
-      go (fail e) = absurd (fields≢refused r 9 (sym s ∙ not-got e))
+      go (fail e) = absurd (fields≢refused r Because.Record (sym s ∙ not-got e))
 
-  was-not : read-said a ≡ refused 9 → readable bs ≡ false
+  was-not : reading-said a ≡ refused Because.Record → readable bs ≡ false
   was-not s = go (tested (readable bs))
     where
       go : Tested (readable bs) → readable bs ≡ false
-      go (pass e) = absurd (fields≢refused found 9 (sym (got e) ∙ s))
+      go (pass e) = absurd (fields≢refused found Because.Record (sym (got e) ∙ s))
       go (fail e) = e
 
   readable-all : readable bs ≡ true → (length bs ≡ record-size) × (padding (values-in bs) ≡ 0) × (good found ≡ true)
@@ -269,7 +271,7 @@ module _ (bs : List ℕ) (a : Reading) (b : Bytes bs) (q : Reads bs a) where
           ⊎-elim ReadFault.bit-in-padding (λ p. by-good (eqb-true (length bs) record-size h) (omega arith) (tested (good found))) (below-or 0 (padding (values-in bs)))
       by-length (fail h) = ReadFault.wrong-length (eqb-false (length bs) record-size h)
 
-  accepted : (r : Record) → read-said a ≡ fields r → (good r ≡ true) × (bs ≡ written r)
+  accepted : (r : Record) → reading-said a ≡ fields r → (good r ≡ true) × (bs ≡ written r)
   unfolding found
   accepted r s =
       let e = was-got r s in
@@ -277,7 +279,7 @@ module _ (bs : List ℕ) (a : Reading) (b : Bytes bs) (q : Reads bs a) where
       let same : found ≡ r = same-fields (got e) s in
       (subst (λ x. good x ≡ true) same (k .2), sym (written-back bs b (k .0) (k .1)) ∙ ap written same)
     where
-      same-fields : {s : Said} {x y : Record} → s ≡ fields x → s ≡ fields y → x ≡ y
+      same-fields : {s : RecordAnswer} {x y : Record} → s ≡ fields x → s ≡ fields y → x ≡ y
       same-fields p q = cc
 
   pub read-promised : ReadPromised bs a
@@ -291,17 +293,17 @@ module _ (bs : List ℕ) (a : Reading) (b : Bytes bs) (q : Reads bs a) where
     written-accepted = λ r g e. q .answer ∙ ap read-answer e ∙ read-written r g;
   }
     where
-      all-read : (ReadFault bs → ⊥) → Tested (readable bs) → read-said a ≡ fields found
+      all-read : (ReadFault bs → ⊥) → Tested (readable bs) → reading-said a ≡ fields found
       all-read n (pass e) = got e
       all-read n (fail e) = absurd (n (not-faulty e))
 
-      again : (r : Record) (before : List ℕ) (w : Writing) (after : List ℕ) → read-said a ≡ fields r → record-size ≤ length before
-          → Writes before r w after → (write-said w ≡ done) × (after ≡ bs ++ drop record-size before)
+      again : (r : Record) (before : List ℕ) (w : Writing) (after : List ℕ) → reading-said a ≡ fields r → record-size ≤ length before
+          → RecordWrites before r w after → (writing-said w ≡ done) × (after ≡ bs ++ drop record-size before)
       again r before w after s h m =
           let k = accepted r s in
           let y = yes before r w after m (rw (le-leb record-size (length before) h) (k .0)) in
           (y .0, y .1 ∙ ap (λ l. l ++ drop record-size before) (sym (k .1)))
 
 -- THE PROMISES HOLD
-pub promised : Promised
+pub promised : RecordPromised
 promised = (write-promised, read-promised)
