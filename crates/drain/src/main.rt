@@ -5,5 +5,5 @@ fn main() {
     let mut space = io::large_buffer();
     let buf: &mut [u8] = &mut space;
     let at = text::take_line(STDIN_FILENO, buf, text::unread());
-    drain_lines::answer(text::part(buf, at.start, at.end));
+    drain_program::answer(text::part(buf, at.start, at.end));
 }

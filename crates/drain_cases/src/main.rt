@@ -12,7 +12,7 @@ fn main() {
         if at.over {
             return;
         }
-        drain_lines::answer(text::part(buf, at.start, at.end));
+        drain_program::answer(text::part(buf, at.start, at.end));
         turns -= 1;
     }
 }

@@ -19,7 +19,7 @@ fn main() {
 }
 
 fn answer(line: &[u8]) {
-    if !record_lines::answer(line) {
+    if !record_program::answer(line) {
         io::write_all(STDOUT_FILENO, b"error\n");
     }
 }
