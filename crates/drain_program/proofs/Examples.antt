@@ -3,7 +3,7 @@ use mathlib.Core.Path.{_≡_, refl}
 use mathlib.Core.Bool.{true, false}
 use mathlib.Core.List.{[], _∷_}
 use Rattle.sizes.specs.Partition.{sbn, esi}
-use Rattle.sender.specs.declared.drain.Line.the-variants.{Packet}
+use Rattle.drain_program.specs.declared.drain.Line.the-variants.{Packet}
 use Rattle.text.specs.Put.{places, decimal}
 use Rattle.drain_program.specs.Lines.{field, line-text}
 

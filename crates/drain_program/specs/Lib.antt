@@ -1,2 +1,3 @@
--- The text of a transfer's lines.
+-- One transfer sent once: its calls, and the text of its lines.
+pub mod DrainCalls
 pub mod Lines

@@ -3,8 +3,8 @@ use mathlib.Core.Bool.{cond}
 use mathlib.Core.List.{List, [], _∷_, _++_}
 use Prim.Native.Nat.{ℕ}
 use Rattle.text.specs.Put.{decimal}
-use Rattle.sender.specs.declared.drain.Line.{Line}
-use Rattle.sender.specs.declared.drain.Line.the-variants.{Packet, Over}
+use Rattle.drain_program.specs.declared.drain.Line.{Line}
+use Rattle.drain_program.specs.declared.drain.Line.the-variants.{Packet, Over}
 
 -- a number in decimal, and one byte behind it
 unfoldable pub field : ℕ → ℕ → List ℕ

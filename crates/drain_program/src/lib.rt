@@ -1,14 +1,16 @@
 // The answer to a line `L E B W`: a line for each packet of one transfer sent once, or `refused`.
 //
 // No packet is kept. The text of its line goes into a buffer, which is written whenever the next line may not fit.
+mod drain;
+
 ghost use Prim.Native.Nat.{_+_, _≤_};
 ghost use lib.ListN.{length};
 ghost use Rattle.sender.specs.EncoderCalls.{Valid};
 ghost use Rattle.text.specs.Put.{Appended};
 ghost use Rattle.drain_program.specs.Lines.{field, line-text, most-field, most-line};
+use crate::drain::Line;
 use libc::STDOUT_FILENO;
 use sender::blockencoder::BlockEncoder;
-use sender::drain::Line;
 use text::Field;
 
 // The longest line that is read. One that fills the reading buffer may be cut there, so it is refused.
@@ -26,7 +28,7 @@ pub fn answer(line: &[u8]) {
 // Writes the lines of a transfer with these numbers and answers true; or writes `refused`, where they are not
 // admitted, and answers false.
 pub fn write_lines(l: u64, e: u64, b: u64, w: u64) -> bool {
-    let begun = sender::drain::begin(l, e, b, w);
+    let begun = drain::begin(l, e, b, w);
     if !begun.ok {
         refuse();
         return false;
@@ -78,7 +80,7 @@ fn send(x: BlockEncoder)
     let mut encoder = x;
     let mut turns = u64::MAX;
     while turns > 0 {
-        let next = sender::drain::turn(encoder);
+        let next = drain::turn(encoder);
         let line = next.line;
         if is_over(line) {
             break;

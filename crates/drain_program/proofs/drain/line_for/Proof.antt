@@ -1,11 +1,12 @@
-use Rattle.sender.specs.declared.drain.Line.the-variants.{Packet}
-use Rattle.sender.proofs.DrainLaws.{start-of}
+-- `drain_program::drain::line_for` meets its contract.
+use Rattle.drain_program.specs.declared.drain.Line.the-variants.{Packet}
+use Rattle.drain_program.proofs.DrainLaws.{start-of}
 use mathlib.Core.Path.{_∙_, ap}
 use Prim.Native.Nat.{_+_, _*_}
 use native.Mathlib.Omega.{arith}
 use borrow.Author.Needs.{needs}
-use Rattle.sender.proofs.drain.line_for.Statement.{statement}
-use Rattle.sender.proofs.drain.line_for.Tie as tie
+use Rattle.drain_program.proofs.drain.line_for.Statement.{statement}
+use Rattle.drain_program.proofs.drain.line_for.Tie as tie
 
 block-start-requires : tie.Need-block-start-requires
 block-start-requires c κs = let s = c .before .before in (s .pre .0, start-of (s .args .c) (s .pre .0) (s .args .s) (s .pre .1) .fits)

@@ -1,11 +1,12 @@
+-- `drain_program::drain::block_start` meets its contract.
 use Rattle.sizes.specs.Partition.{block-start}
-use Rattle.sender.proofs.DrainLaws.{in-large-ones, in-small-ones, first-low}
+use Rattle.drain_program.proofs.DrainLaws.{in-large-ones, in-small-ones, first-low}
 use mathlib.Core.Path.{sym, ap}
 use Prim.Native.Nat.{_*_}
 use native.Mathlib.Omega.{arith}
 use borrow.Author.Needs.{needs}
-use Rattle.sender.proofs.drain.block_start.Statement.{statement}
-use Rattle.sender.proofs.drain.block_start.Tie as tie
+use Rattle.drain_program.proofs.drain.block_start.Statement.{statement}
+use Rattle.drain_program.proofs.drain.block_start.Tie as tie
 
 cast-n : tie.Need-cast-n
 cast-n c = search needs

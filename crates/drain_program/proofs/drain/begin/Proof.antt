@@ -1,12 +1,13 @@
+-- `drain_program::drain::begin` meets its contract.
 use mathlib.Core.Bool.{true, false}
 use Rattle.sender.specs.EncoderCalls.{Valid}
 use Rattle.sender.specs.declared.blockencoder.BlockEncoder.{BlockEncoder}
-use Rattle.sender.specs.declared.drain.Begun.{Begun}
-use Rattle.sender.proofs.DrainLaws.{begun-valid, nothing-admitted}
+use Rattle.drain_program.specs.declared.drain.Begun.{Begun}
+use Rattle.drain_program.proofs.DrainLaws.{begun-valid, nothing-admitted}
 use mathlib.Core.Path.{sym, _∙_, ap, subst}
 use borrow.Author.Needs.{needs}
-use Rattle.sender.proofs.drain.begin.Statement.{statement}
-use Rattle.sender.proofs.drain.begin.Tie as tie
+use Rattle.drain_program.proofs.drain.begin.Statement.{statement}
+use Rattle.drain_program.proofs.drain.begin.Tie as tie
 
 is-refused-requires : tie.Need-is-refused-requires
 is-refused-requires c κs = search needs

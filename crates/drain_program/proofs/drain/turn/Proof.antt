@@ -1,13 +1,14 @@
+-- `drain_program::drain::turn` meets its contract.
 use mathlib.Core.Bool.{false}
 use Rattle.sizes.specs.Words.{maybe}
 use Rattle.sender.specs.EncoderCalls.{emitted-said}
-use Rattle.sender.specs.DrainCalls.{line-of}
-use Rattle.sender.specs.declared.drain.Line.the-variants.{Over}
+use Rattle.drain_program.specs.DrainCalls.{packet-line}
+use Rattle.drain_program.specs.declared.drain.Line.the-variants.{Over}
 use Rattle.sender.proofs.EncoderPromises.{read-shows}
 use mathlib.Core.Path.{sym, _∙_, ap}
 use borrow.Author.Needs.{needs}
-use Rattle.sender.proofs.drain.turn.Statement.{statement}
-use Rattle.sender.proofs.drain.turn.Tie as tie
+use Rattle.drain_program.proofs.drain.turn.Statement.{statement}
+use Rattle.drain_program.proofs.drain.turn.Tie as tie
 
 read-requires : tie.Need-read-requires
 read-requires c κs = search needs
@@ -22,7 +23,7 @@ returns : tie.Need-returns
 returns c =
     let x = c .before .before .before .before .before .args .x in
     let r = c .before .before .before .read .ensures in
-    record { exact = ap (λ z. z .encoder) (r .exact); line = ap (λ a. maybe Over (line-of (x .content)) a) (ap emitted-said (sym (c .enum-told .given .1)) ∙ r .said); next = r .next; content = r .content; width = r .width; valid = r .valid }
+    record { exact = ap (λ z. z .encoder) (r .exact); line = ap (λ a. maybe Over (packet-line (x .content)) a) (ap emitted-said (sym (c .enum-told .given .1)) ∙ r .said); next = r .next; content = r .content; width = r .width; valid = r .valid }
 
 line-for-requires : tie.Need-line-for-requires
 line-for-requires c κs =
@@ -36,7 +37,7 @@ returns-2 c =
     let r = c .before .before .before .before .before .read .ensures in
     record {
       exact = ap (λ z. z .encoder) (r .exact);
-      line = c .line-for .ensures ∙ ap (λ a. maybe Over (line-of (x .content)) a) (ap emitted-said (sym (c .before .before .answer .given .1)) ∙ r .said);
+      line = c .line-for .ensures ∙ ap (λ a. maybe Over (packet-line (x .content)) a) (ap emitted-said (sym (c .before .before .answer .given .1)) ∙ r .said);
       next = r .next;
       content = r .content;
       width = r .width;

@@ -18,13 +18,13 @@ use Rattle.sizes.proofs.Lengths.{before-large, before-small}
 use Rattle.lifecycle.specs.Setup.{sound-sizes, bad-blocks}
 use Rattle.lifecycle.proofs.FdtFacts.{if-on}
 use Rattle.lifecycle.proofs.SetupLaws.{in-range}
 use Rattle.sender.specs.EncoderCalls.{Sound, Valid, offset-of, new-of}
 use Rattle.sender.specs.EncoderPromises.{Shown, named}
-use Rattle.sender.specs.DrainCalls.{refuses}
+use Rattle.drain_program.specs.DrainCalls.{drain-refuses}
 use Rattle.sender.specs.declared.blockencoder.Content.{Content}
 use Rattle.sender.specs.declared.blockencoder.Symbol.{Symbol}
 use Rattle.sender.proofs.EncoderPromises.{new-sound}
 use Rattle.sender.proofs.Offsets.{told, cut-up, offset-early}
 
 -- ---- every block has the small count, and each large one a symbol more
 
@@ -104,32 +104,32 @@ module _ (c : Content) (s : Sound c) where
 -- ---- what is refused
 
 module _ (l e b w : ℕ) where
-  pub no-window : w ≡ 0 → refuses l e b w ≡ true
-  unfolding refuses
+  pub no-window : w ≡ 0 → drain-refuses l e b w ≡ true
+  unfolding drain-refuses
   no-window h = ap (λ t. not (t && leb w largest-window) || (ltb longest-store l || bad-blocks (record { e = e; b = b }) l)) (lt-leb 1 w (omega arith))
 
   in-window : (w ≡ 0 → ⊥) → w ≤ largest-window → within 1 largest-window w ≡ true
   in-window g h = ap (λ t. t && leb w largest-window) (le-leb 1 w (omega arith)) ∙ le-leb w largest-window h
 
-  pub wide-window : (w ≡ 0 → ⊥) → largest-window < w → refuses l e b w ≡ true
-  unfolding refuses
+  pub wide-window : (w ≡ 0 → ⊥) → largest-window < w → drain-refuses l e b w ≡ true
+  unfolding drain-refuses
   wide-window g h = ap (λ t. not (t && leb w largest-window) || (ltb longest-store l || bad-blocks (record { e = e; b = b }) l)) (le-leb 1 w (omega arith))
       ∙ ap (λ t. not t || (ltb longest-store l || bad-blocks (record { e = e; b = b }) l)) (lt-leb w largest-window h)
 
   module _ (g : w ≡ 0 → ⊥) (h : w ≤ largest-window) where
-    rest : refuses l e b w ≡ (ltb longest-store l || bad-blocks (record { e = e; b = b }) l)
-    unfolding refuses
+    rest : drain-refuses l e b w ≡ (ltb longest-store l || bad-blocks (record { e = e; b = b }) l)
+    unfolding drain-refuses
     rest = ap (λ t. not t || (ltb longest-store l || bad-blocks (record { e = e; b = b }) l)) (in-window g h)
 
-    pub too-long : longest-store < l → refuses l e b w ≡ true
+    pub too-long : longest-store < l → drain-refuses l e b w ≡ true
     too-long f = rest ∙ ap (λ t. t || bad-blocks (record { e = e; b = b }) l) (lt-ltb longest-store l f)
 
-    pub by-blocks : l ≤ longest-store → refuses l e b w ≡ bad-blocks (record { e = e; b = b }) l
+    pub by-blocks : l ≤ longest-store → drain-refuses l e b w ≡ bad-blocks (record { e = e; b = b }) l
     by-blocks f = rest ∙ ap (λ t. t || bad-blocks (record { e = e; b = b }) l) (le-ltb longest-store l f)
 
   -- what is not refused is an encoder's
-  pub begun-valid : refuses l e b w ≡ false → Valid (new-of (record { start = 0; size = l }) (record { e = e; b = b }) w true)
-  unfolding refuses new-of
+  pub begun-valid : drain-refuses l e b w ≡ false → Valid (new-of (record { start = 0; size = l }) (record { e = e; b = b }) w true)
+  unfolding drain-refuses new-of
   begun-valid h =
       let a = not (within 1 largest-window w) in
       let m = ltb longest-store l in
@@ -140,6 +140,6 @@ module _ (l e b w : ℕ) where
       new-sound (record { start = 0; size = l }) (record { e = e; b = b }) w true (record { cut = refl; sizes = or-right m d t; fits = omega arith }) (i .1)
 
 -- a transfer of nothing is admitted
-pub nothing-admitted : refuses 0 1 1 1 ≡ false
-unfolding refuses bad-blocks sound-sizes partition-of symbols-of ceil
+pub nothing-admitted : drain-refuses 0 1 1 1 ≡ false
+unfolding drain-refuses bad-blocks sound-sizes partition-of symbols-of ceil
 nothing-admitted = refl

@@ -1,8 +1,9 @@
-use Rattle.sender.proofs.DrainLaws.{no-window, wide-window, too-long, by-blocks}
+-- `drain_program::drain::is_refused` meets its contract.
+use Rattle.drain_program.proofs.DrainLaws.{no-window, wide-window, too-long, by-blocks}
 use mathlib.Core.Path.{sym, _∙_}
 use borrow.Author.Needs.{needs}
-use Rattle.sender.proofs.drain.is_refused.Statement.{statement}
-use Rattle.sender.proofs.drain.is_refused.Tie as tie
+use Rattle.drain_program.proofs.drain.is_refused.Statement.{statement}
+use Rattle.drain_program.proofs.drain.is_refused.Tie as tie
 
 returns : tie.Need-returns
 returns c = let a = c .before .args in sym (no-window (a .l) (a .e) (a .b) (a .w) (c .if1 .taken))

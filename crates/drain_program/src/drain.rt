@@ -1,17 +1,17 @@
-// One transfer that is sent once, a line for each packet: the work of the program `drain`.
+// One transfer that is sent once, a line for each packet.
 ghost use mathlib.Core.Path.{_≡_};
 ghost use Prim.Native.Nat.{_*_, _<_};
 ghost use Rattle.sizes.specs.Limits.{wide};
 ghost use Rattle.sizes.specs.Partition.{first-symbol, block-start};
 ghost use Rattle.sender.specs.EncoderCalls.{Sound, Valid, symbol-said};
 ghost use Rattle.sender.specs.EncoderPromises.{Shown};
-ghost use Rattle.sender.specs.DrainCalls.{refuses, line-of, Begins, Turns};
-use crate::blockencoder::BlockEncoder;
-use crate::blockencoder::Content;
-use crate::blockencoder::Emitted;
-use crate::blockencoder::Symbol;
+ghost use Rattle.drain_program.specs.DrainCalls.{drain-refuses, packet-line, DrainBegins, Turns};
 use lifecycle::fdt::are_bad_blocks;
 use lifecycle::parts::Part;
+use sender::blockencoder::BlockEncoder;
+use sender::blockencoder::Content;
+use sender::blockencoder::Emitted;
+use sender::blockencoder::Symbol;
 use sizes::numbers::Esi;
 use sizes::numbers::Sbn;
 use sizes::partition::Sizes;
@@ -42,7 +42,7 @@ pub struct Begun {
 
 // Is a number out of range, or are there too many blocks?
 fn is_refused(l: u64, e: u64, b: u64, w: u64) -> bool
-    ensures { λ r. ⌜ r ≡ refuses l e b w ⌝ }
+    ensures { λ r. ⌜ r ≡ drain-refuses l e b w ⌝ }
 {
     if w == 0 {
         return true;
@@ -58,7 +58,7 @@ fn is_refused(l: u64, e: u64, b: u64, w: u64) -> bool
 
 // The transfer of l bytes in symbols of e, blocks of at most b symbols and w blocks at a time.
 pub fn begin(l: u64, e: u64, b: u64, w: u64) -> Begun
-    ensures { λ r. ⌜ Begins l e b w r ⌝ }
+    ensures { λ r. ⌜ DrainBegins l e b w r ⌝ }
 {
     if is_refused(l, e, b, w) {
         let nothing = Part { start: 0, size: 0 };
@@ -91,7 +91,7 @@ fn block_start(c: Content, k: Sbn) -> u64
 // The line of a packet.
 fn line_for(c: Content, s: Symbol) -> Line
     requires { ⌜ Sound c × Shown c s ⌝ }
-    ensures { λ r. ⌜ r ≡ line-of c (symbol-said s) ⌝ }
+    ensures { λ r. ⌜ r ≡ packet-line c (symbol-said s) ⌝ }
 {
     let block = s.sbn;
     let symbol = s.esi;
