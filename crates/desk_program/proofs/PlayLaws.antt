@@ -15,7 +15,7 @@ use Rattle.sender.specs.SenderCalls.{Valid}
 use Rattle.sender.specs.declared.sender.Sender.{Sender}
 use Rattle.sender.specs.declared.setup.Setup.{Setup}
 use Rattle.desk_program.specs.Commands.{setup-named}
-use Rattle.desk_program.specs.Plays.{asked, alone, reply-with, Plays, Calls, SetsUp, Shut, Answers, Begins, Stays}
+use Rattle.desk_program.specs.Plays.{call-of, alone, reply-with, PlaysCall, Calls, SetsUp, Shut, Answers, SetUpAnswers, Stays}
 use Rattle.desk_program.specs.declared.command.Command.{Command}
 use Rattle.desk_program.specs.declared.command.Command.the-variants as CommandV
 use Rattle.desk_program.specs.declared.command.Opening.{Opening}
@@ -29,23 +29,23 @@ clash : {A : Type 0} → _≡_ {A = ℕ} 0 1 → A
 clash e = absurd (omega arith)
 
 -- a call that was played as one, and a command that asks for none
-pub calls-of : {c : Command} {k : Call} {s : Sender} {r : Desk} → asked c ≡ some k → Plays k s r → Calls c s r
+pub calls-of : {c : Command} {k : Call} {s : Sender} {r : Desk} → call-of c ≡ some k → PlaysCall k s r → Calls c s r
 calls-of {c} {k} {s} {r} e p =
     record {
       valid = p .kept .valid;
-      played = λ l f. subst (λ (x : Call). Plays x s r) (cc) p;
-      nowhere = λ f. let g : none ≡ some k = sym (ap asked f) ∙ e in clash (cc);
+      played = λ l f. subst (λ (x : Call). PlaysCall x s r) (cc) p;
+      nowhere = λ f. let g : none ≡ some k = sym (ap call-of f) ∙ e in clash (cc);
     }
 
-pub calls-none : {c : Command} {s : Sender} {r : Desk} (o : Bool) (y : Reply) → asked c ≡ none → Valid s → r ≡ reply-with o s y →
+pub calls-none : {c : Command} {s : Sender} {r : Desk} (o : Bool) (y : Reply) → call-of c ≡ none → Valid s → r ≡ reply-with o s y →
     (c ≡ CommandV.AddNowhere → r ≡ reply-with true s (ReplyV.Refused Because.NoPriority)) → Calls c s r
 calls-none {c} {s} {r} o y e v h w = record { valid = rw h v; played = λ l f. clash (cc); nowhere = w }
 
 -- the places of the commands that ask for none
 abbrev pub others : List ℕ
-others = 0 ∷ 1 ∷ 2 ∷ 3 ∷ 16 ∷ 17 ∷ 18 ∷ 19 ∷ []
+others = 0 ∷ 1 ∷ 2 ∷ 3 ∷ 16 ∷ 17 ∷ 18 ∷ 19 ∷ 20 ∷ 21 ∷ []
 
-pub asks-none : (c : Command) → OneOf others (tagOf the-type c) → asked c ≡ none
+pub asks-none : (c : Command) → OneOf others (tagOf the-type c) → call-of c ≡ none
 asks-none CommandV.Skip h = refl
 asks-none CommandV.Wrong h = refl
 asks-none (CommandV.Setup x) h = refl
@@ -66,13 +66,15 @@ asks-none (CommandV.Partition l e b) h = refl
 asks-none (CommandV.BlockLength l e b k) h = refl
 asks-none (CommandV.RawLength large small bigs l e k) h = refl
 asks-none (CommandV.Drain l e b w) h = refl
+asks-none (CommandV.WriteRecord r room) h = refl
+asks-none (CommandV.ReadRecord a) h = refl
 
 -- a sender that stays as it is
 pub still : {s : Sender} {r : Desk} (o : Bool) (y : Reply) → Valid s → r ≡ reply-with o s y → Valid (r .sender)
 still o y v h = rw h v
 
 -- a command that asks for no call, a call of an open desk, and any of one that is not
-pub answers-none : {c : Command} {d r : Desk} → asked c ≡ none → (c ≡ CommandV.AddNowhere → ⊥) → Valid (r .sender) → Answers c d r
+pub answers-none : {c : Command} {d r : Desk} → call-of c ≡ none → (c ≡ CommandV.AddNowhere → ⊥) → Valid (r .sender) → Answers c d r
 answers-none e n v =
     record {
       valid = v;
@@ -131,29 +133,31 @@ not-alone (CommandV.Partition l e b) h = absurd (miss calls 16 tt h)
 not-alone (CommandV.BlockLength l e b k) h = absurd (miss calls 17 tt h)
 not-alone (CommandV.RawLength large small bigs l e k) h = absurd (miss calls 18 tt h)
 not-alone (CommandV.Drain l e b w) h = absurd (miss calls 19 tt h)
+not-alone (CommandV.WriteRecord r room) h = absurd (miss calls 20 tt h)
+not-alone (CommandV.ReadRecord a) h = absurd (miss calls 21 tt h)
 
 -- a command is not one at another place
 pub elsewhere : (ks : List ℕ) (c k : Command) → OneOf ks (tagOf the-type c) → T (not (hasKey ks (tagOf the-type k))) → c ≡ k → ⊥
 elsewhere ks c k h m f = miss ks (tagOf the-type k) m (subst (λ (y : Command). OneOf ks (tagOf the-type y)) f h)
 
 -- a set-up, one that is out of range, a line that cannot be read, and any other
-pub begins-set-up : {c : Command} {d r : Desk} {z : Setup} (x : Opening) → c ≡ CommandV.Setup x → z ≡ setup-named x → SetsUp z r → Begins c d r
-begins-set-up {c} {d} {r} {z} x e h p =
+pub set-up-answered : {c : Command} {d r : Desk} {z : Setup} (x : Opening) → c ≡ CommandV.Setup x → z ≡ setup-named x → SetsUp z r → SetUpAnswers c d r
+set-up-answered {c} {d} {r} {z} x e h p =
     record {
       begun = λ y f. let q : x ≡ y = cc in subst (λ (w : Setup). SetsUp w r) (h ∙ ap setup-named q) p;
       out = λ f. clash (cc);
       wrong = λ f. clash (cc);
     }
 
-pub begins-out : {c : Command} {d r : Desk} → c ≡ CommandV.SetupOut → Shut r → Begins c d r
-begins-out e p = record { begun = λ y f. clash (cc); out = λ f. p; wrong = λ f. clash (cc) }
+pub set-up-out : {c : Command} {d r : Desk} → c ≡ CommandV.SetupOut → Shut r → SetUpAnswers c d r
+set-up-out e p = record { begun = λ y f. clash (cc); out = λ f. p; wrong = λ f. clash (cc) }
 
-pub begins-wrong : {c : Command} {d r : Desk} → c ≡ CommandV.Wrong → r ≡ reply-with (d .«open») (d .sender) ReplyV.Error → Begins c d r
-begins-wrong e p = record { begun = λ y f. clash (cc); out = λ f. clash (cc); wrong = λ f. p }
+pub wrong-answered : {c : Command} {d r : Desk} → c ≡ CommandV.Wrong → r ≡ reply-with (d .«open») (d .sender) ReplyV.Error → SetUpAnswers c d r
+wrong-answered e p = record { begun = λ y f. clash (cc); out = λ f. clash (cc); wrong = λ f. p }
 
-pub begins-other : {d r : Desk} (ks : List ℕ) (c : Command) → OneOf ks (tagOf the-type c) →
-    T (not (hasKey ks 1)) → T (not (hasKey ks 2)) → T (not (hasKey ks 3)) → Begins c d r
-begins-other ks c h one two three =
+pub no-set-up : {d r : Desk} (ks : List ℕ) (c : Command) → OneOf ks (tagOf the-type c) →
+    T (not (hasKey ks 1)) → T (not (hasKey ks 2)) → T (not (hasKey ks 3)) → SetUpAnswers c d r
+no-set-up ks c h one two three =
     record {
       begun = λ y f. absurd (elsewhere ks c (CommandV.Setup y) h two f);
       out = λ f. absurd (elsewhere ks c CommandV.SetupOut h three f);

@@ -19,7 +19,7 @@ use Rattle.sender.specs.declared.sender.Object.{Object}
 use Rattle.sender.specs.declared.sender.Sender.{Sender}
 use Rattle.sender.specs.declared.setup.Setup.{Setup}
 use Rattle.desk_program.specs.Commands.{setup-named}
-use Rattle.desk_program.specs.Replies.{Says, set-up-said, length-shown}
+use Rattle.desk_program.specs.Replies.{Says, set-up-said, length-shown, record-shown, reading-shown}
 use Rattle.desk_program.specs.declared.command.Command.{Command}
 use Rattle.desk_program.specs.declared.command.Command.the-variants as CommandV
 use Rattle.desk_program.specs.declared.command.Opening.{Opening}
@@ -61,34 +61,36 @@ abbrev pub asks-run : ℕ → ℕ → Def.Call
 asks-run i clock = Def.Call.run-file i clock
 
 -- the desk stays open, and its reply and its sender are what the definition says of the call
-pub record Plays (c : Def.Call) (s : Sender) (r : Desk) : Type 0 where
+pub record PlaysCall (c : Def.Call) (s : Sender) (r : Desk) : Type 0 where
   pub stays : r .«open» ≡ true
   pub answer : Def.Answer
   pub says : Says answer (r .reply)
   pub kept : Kept s c answer (r .sender)
 
 -- what a command asks of a sender; none where it asks nothing
-abbrev pub asked : Command → Option Def.Call
-asked CommandV.Skip = none
-asked CommandV.Wrong = none
-asked (CommandV.Setup x) = none
-asked CommandV.SetupOut = none
-asked CommandV.Reserve = some asks-reserve
-asked (CommandV.Release t) = some (asks-release t)
-asked (CommandV.Add o named) = some (asks-add o named)
-asked CommandV.AddNowhere = none
-asked (CommandV.Remove t) = some (asks-remove t)
-asked (CommandV.Trigger t start) = some (asks-trigger t start)
-asked (CommandV.Publish clock part) = some (asks-publish clock part)
-asked CommandV.Complete = some asks-complete
-asked (CommandV.Listed t) = some (asks-listed t)
-asked (CommandV.Transfers t) = some (asks-transfers t)
-asked (CommandV.RunFdt clock draft) = some (asks-run-fdt clock draft)
-asked (CommandV.Run i clock) = some (asks-run i clock)
-asked (CommandV.Partition l e b) = none
-asked (CommandV.BlockLength l e b k) = none
-asked (CommandV.RawLength large small bigs l e k) = none
-asked (CommandV.Drain l e b w) = none
+abbrev pub call-of : Command → Option Def.Call
+call-of CommandV.Skip = none
+call-of CommandV.Wrong = none
+call-of (CommandV.Setup x) = none
+call-of CommandV.SetupOut = none
+call-of CommandV.Reserve = some asks-reserve
+call-of (CommandV.Release t) = some (asks-release t)
+call-of (CommandV.Add o named) = some (asks-add o named)
+call-of CommandV.AddNowhere = none
+call-of (CommandV.Remove t) = some (asks-remove t)
+call-of (CommandV.Trigger t start) = some (asks-trigger t start)
+call-of (CommandV.Publish clock part) = some (asks-publish clock part)
+call-of CommandV.Complete = some asks-complete
+call-of (CommandV.Listed t) = some (asks-listed t)
+call-of (CommandV.Transfers t) = some (asks-transfers t)
+call-of (CommandV.RunFdt clock draft) = some (asks-run-fdt clock draft)
+call-of (CommandV.Run i clock) = some (asks-run i clock)
+call-of (CommandV.Partition l e b) = none
+call-of (CommandV.BlockLength l e b k) = none
+call-of (CommandV.RawLength large small bigs l e k) = none
+call-of (CommandV.Drain l e b w) = none
+call-of (CommandV.WriteRecord r room) = none
+call-of (CommandV.ReadRecord a) = none
 
 abbrev pub reply-with : Bool → Sender → Reply → Desk
 reply-with o s y = record { «open» = o; reply = y; sender = s }
@@ -96,7 +98,7 @@ reply-with o s y = record { «open» = o; reply = y; sender = s }
 -- of a command that needs the sender
 pub record Calls (c : Command) (s : Sender) (r : Desk) : Type 0 where
   pub valid : Valid (r .sender)
-  pub played : (k : Def.Call) → asked c ≡ some k → Plays k s r
+  pub played : (k : Def.Call) → call-of c ≡ some k → PlaysCall k s r
   -- no session has a priority above 32 bits
   pub nowhere : c ≡ CommandV.AddNowhere → r ≡ reply-with true s (ReplyV.Refused Because.NoPriority)
 
@@ -115,11 +117,11 @@ pub record Shut (r : Desk) : Type 0 where
 -- of any command: a call of an open desk is played; where no set-up was accepted it is an error, and nothing changes
 pub record Answers (c : Command) (d r : Desk) : Type 0 where
   pub valid : Valid (r .sender)
-  pub played : (k : Def.Call) → asked c ≡ some k → d .«open» ≡ true → Plays k (d .sender) r
-  pub shut : (k : Def.Call) → asked c ≡ some k → d .«open» ≡ false → r ≡ reply-with false (d .sender) ReplyV.Error
+  pub played : (k : Def.Call) → call-of c ≡ some k → d .«open» ≡ true → PlaysCall k (d .sender) r
+  pub shut : (k : Def.Call) → call-of c ≡ some k → d .«open» ≡ false → r ≡ reply-with false (d .sender) ReplyV.Error
   pub nowhere : c ≡ CommandV.AddNowhere → r ≡ (if d .«open» then reply-with true (d .sender) (ReplyV.Refused Because.NoPriority) else reply-with false (d .sender) ReplyV.Error)
 
--- the reply to a command that needs no sender: an empty line or a comment, a partition, a block's length, a transfer's lines
+-- the reply to a command that needs no sender: an empty line or a comment, a partition, a block's length, a transfer's lines, a record
 abbrev pub alone : Command → Option Reply
 alone CommandV.Skip = some ReplyV.Silent
 alone CommandV.Wrong = none
@@ -141,13 +143,15 @@ alone (CommandV.Partition l e b) = some (ReplyV.Cut (partition-of b l e))
 alone (CommandV.BlockLength l e b k) = let p = partition-of b l e in some (length-shown (block-length (sizes-given (p .large) (p .small) (p .bigs)) l e k))
 alone (CommandV.RawLength large small bigs l e k) = some (length-shown (block-length (sizes-given large small bigs) l e k))
 alone (CommandV.Drain l e b w) = some (ReplyV.Drained l e b w)
+alone (CommandV.WriteRecord r room) = some (record-shown r room)
+alone (CommandV.ReadRecord a) = some (reading-shown a)
 
 -- of such a command: that reply, and nothing changes
 pub record Stays (c : Command) (d r : Desk) : Type 0 where
   pub stays : (y : Reply) → alone c ≡ some y → r ≡ reply-with (d .«open») (d .sender) y
 
 -- of a set-up, and of a line that cannot be read
-pub record Begins (c : Command) (d r : Desk) : Type 0 where
+pub record SetUpAnswers (c : Command) (d r : Desk) : Type 0 where
   pub begun : (x : Opening) → c ≡ CommandV.Setup x → SetsUp (setup-named x) r
   pub out : c ≡ CommandV.SetupOut → Shut r
   pub wrong : c ≡ CommandV.Wrong → r ≡ reply-with (d .«open») (d .sender) ReplyV.Error

@@ -9,6 +9,8 @@ use lifecycle::filedesc::Carousel;
 use lifecycle::filedesc::Target;
 use lifecycle::filedesc::Time;
 use lifecycle::parts::Part;
+use record_program::ReadWords;
+use record_program::WriteWords;
 use sender::sender::Object;
 use sender::setup::FdtCarousel;
 use sender::setup::Setup;
@@ -16,10 +18,12 @@ use sizes::numbers::Sbn;
 use sizes::partition::Sizes;
 use text::Field;
 use text::Word;
+use wire::record::Reading;
+use wire::record::Record;
 
 // What a line asks for.
 pub enum Command {
-    // an empty line, a comment, or what is answered already
+    // an empty line, or a comment
     Skip,
     // no command
     Wrong,
@@ -79,6 +83,13 @@ pub enum Command {
         b: u64,
         w: u64,
     },
+    // a record, and the room of the buffer that it is written into
+    WriteRecord {
+        record: Record,
+        room: u8,
+    },
+    // the record that stands in the bytes of the line, if any does
+    ReadRecord(Reading),
 }
 
 // The numbers of a set-up. The priorities of its first `count` sessions stand each in a field.
@@ -120,15 +131,12 @@ pub fn setup_of(x: Opening) -> Setup
     }
 }
 
-// The longest line that is read. One that fills the reading buffer may be cut there, so it is no command.
-const LONGEST: usize = 65535;
-
 // The largest number of 32 bits.
 const MOST_32: u64 = 0xFFFF_FFFF;
 
 // What a line asks for, by its first word.
 pub fn read_command(line: &[u8]) -> Command {
-    if LONGEST < line.len() {
+    if text::LONGEST < line.len() {
         return Command::Wrong;
     }
     let Word::At { start, end } = text::next_word(line, 0) else {
@@ -147,12 +155,34 @@ pub fn read_command(line: &[u8]) -> Command {
     if text::is_word(name, b"trigger") {
         return read_trigger(line, end);
     }
+    if text::is_word(name, b"writerecord") {
+        return read_write(line, end);
+    }
+    if text::is_word(name, b"readrecord") {
+        return read_read(line, end);
+    }
     read_plain(line, name, end)
 }
 
 // Does a word begin with `#`?
 fn is_comment(w: &[u8]) -> bool {
     if 0 < w.len() { w[0] == b'#' } else { false }
+}
+
+// FDT CLOSE FDT_ID TOI BLOCK SYMBOL LENGTH TRANSFER_LENGTH COUNT ROOM
+fn read_write(line: &[u8], from: usize) -> Command {
+    let WriteWords::Are { record, room } = record_program::write_words(line, from) else {
+        return Command::Wrong;
+    };
+    Command::WriteRecord { record, room }
+}
+
+// HEX
+fn read_read(line: &[u8], from: usize) -> Command {
+    let ReadWords::Are(found) = record_program::read_words(line, from) else {
+        return Command::Wrong;
+    };
+    Command::ReadRecord(found)
 }
 
 // Up to six numbers, the first `count` of `all`; what stands behind them begins at `next`.

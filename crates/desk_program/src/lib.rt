@@ -5,7 +5,6 @@ mod print;
 mod reply;
 mod store;
 
-use crate::command::Command;
 use libc::STDIN_FILENO;
 
 // Answers each line of standard input, over two stores that are filled with known bytes.
@@ -19,30 +18,16 @@ pub fn serve() {
     answer_all(objects, fdts);
 }
 
-// The turns are counted down, from a number that no run uses up, since a proved loop has to end.
 fn answer_all<'a>(objects: &'a [u8], fdts: &'a [u8]) {
     let mut space = io::large_buffer();
     let buf: &mut [u8] = &mut space;
-    let mut at = text::unread();
     let mut desk = play::shut();
-    let mut turns = u64::MAX;
-    while turns > 0 {
-        at = text::take_line(STDIN_FILENO, buf, at);
-        if at.over {
-            return;
-        }
-        let line = text::part(buf, at.start, at.end);
-        desk = play::play(desk, command_of(line));
+    let mut lines = text::open_lines(STDIN_FILENO, buf);
+    while 0 < lines.left {
+        let command = command::read_command(text::this_line(buf, lines));
+        desk = play::play(desk, command);
         let reply = desk.reply;
         print::write_reply(objects, fdts, reply);
-        turns -= 1;
+        lines = text::next_line(STDIN_FILENO, buf, lines);
     }
-}
-
-// What a line asks the desk for: nothing, where it is a command on records, which is answered here.
-fn command_of(line: &[u8]) -> Command {
-    if record_program::answer(line) {
-        return Command::Skip;
-    }
-    command::read_command(line)
 }

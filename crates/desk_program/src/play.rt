@@ -3,7 +3,7 @@ ghost use mathlib.Core.Path.{_≡_};
 ghost use Rattle.sizes.specs.Partition.{partition-of, block-length, sizes-given};
 ghost use Rattle.sender.specs.SenderCalls.{Valid};
 ghost use Rattle.desk_program.specs.Replies.{length-shown};
-ghost use Rattle.desk_program.specs.Plays.{Plays, Calls, SetsUp, Shut, Answers, Begins, Stays, reply-with, asks-reserve, asks-release, asks-add, asks-remove, asks-trigger, asks-listed, asks-transfers, asks-complete, asks-publish, asks-run-fdt, asks-run};
+ghost use Rattle.desk_program.specs.Plays.{PlaysCall, Calls, SetsUp, Shut, Answers, SetUpAnswers, Stays, reply-with, asks-reserve, asks-release, asks-add, asks-remove, asks-trigger, asks-listed, asks-transfers, asks-complete, asks-publish, asks-run-fdt, asks-run};
 use crate::command::Command;
 use crate::command::setup_of;
 use crate::reply::Reply;
@@ -28,7 +28,7 @@ pub struct Desk {
 
 fn reserve(mut s: Sender) -> Desk
     requires { ⌜ Valid s ⌝ }
-    ensures { λ r. ⌜ Plays asks-reserve s r ⌝ }
+    ensures { λ r. ⌜ PlaysCall asks-reserve s r ⌝ }
 {
     let r = s.reserve();
     let answer = r.answer;
@@ -42,7 +42,7 @@ fn reserve(mut s: Sender) -> Desk
 
 fn release(mut s: Sender, toi: u64) -> Desk
     requires { ⌜ Valid s ⌝ }
-    ensures { λ r. ⌜ Plays (asks-release toi) s r ⌝ }
+    ensures { λ r. ⌜ PlaysCall (asks-release toi) s r ⌝ }
 {
     let r = s.release(toi);
     let answer = r.answer;
@@ -56,7 +56,7 @@ fn release(mut s: Sender, toi: u64) -> Desk
 
 fn add(mut s: Sender, o: Object, named: Named) -> Desk
     requires { ⌜ Valid s ⌝ }
-    ensures { λ r. ⌜ Plays (asks-add o named) s r ⌝ }
+    ensures { λ r. ⌜ PlaysCall (asks-add o named) s r ⌝ }
 {
     let r = s.add(o, named);
     let answer = r.answer;
@@ -70,7 +70,7 @@ fn add(mut s: Sender, o: Object, named: Named) -> Desk
 
 fn remove(mut s: Sender, toi: u64) -> Desk
     requires { ⌜ Valid s ⌝ }
-    ensures { λ r. ⌜ Plays (asks-remove toi) s r ⌝ }
+    ensures { λ r. ⌜ PlaysCall (asks-remove toi) s r ⌝ }
 {
     let r = s.remove(toi);
     s = r.sender;
@@ -83,7 +83,7 @@ fn remove(mut s: Sender, toi: u64) -> Desk
 
 fn trigger(mut s: Sender, toi: u64, start: Time) -> Desk
     requires { ⌜ Valid s ⌝ }
-    ensures { λ r. ⌜ Plays (asks-trigger toi start) s r ⌝ }
+    ensures { λ r. ⌜ PlaysCall (asks-trigger toi start) s r ⌝ }
 {
     let r = s.trigger(toi, start);
     s = r.sender;
@@ -96,7 +96,7 @@ fn trigger(mut s: Sender, toi: u64, start: Time) -> Desk
 
 fn listed(s: Sender, toi: u64) -> Desk
     requires { ⌜ Valid s ⌝ }
-    ensures { λ r. ⌜ Plays (asks-listed toi) s r ⌝ }
+    ensures { λ r. ⌜ PlaysCall (asks-listed toi) s r ⌝ }
 {
     Desk {
         open: true,
@@ -107,7 +107,7 @@ fn listed(s: Sender, toi: u64) -> Desk
 
 fn transfers(s: Sender, toi: u64) -> Desk
     requires { ⌜ Valid s ⌝ }
-    ensures { λ r. ⌜ Plays (asks-transfers toi) s r ⌝ }
+    ensures { λ r. ⌜ PlaysCall (asks-transfers toi) s r ⌝ }
 {
     Desk {
         open: true,
@@ -118,7 +118,7 @@ fn transfers(s: Sender, toi: u64) -> Desk
 
 fn complete(s: Sender) -> Desk
     requires { ⌜ Valid s ⌝ }
-    ensures { λ r. ⌜ Plays asks-complete s r ⌝ }
+    ensures { λ r. ⌜ PlaysCall asks-complete s r ⌝ }
 {
     Desk {
         open: true,
@@ -129,7 +129,7 @@ fn complete(s: Sender) -> Desk
 
 fn publish(mut s: Sender, clock: u64, part: Part) -> Desk
     requires { ⌜ Valid s ⌝ }
-    ensures { λ r. ⌜ Plays (asks-publish clock part) s r ⌝ }
+    ensures { λ r. ⌜ PlaysCall (asks-publish clock part) s r ⌝ }
 {
     let r = s.publish(clock, part);
     let answer = r.answer;
@@ -143,7 +143,7 @@ fn publish(mut s: Sender, clock: u64, part: Part) -> Desk
 
 fn run_fdt(mut s: Sender, clock: u64, draft: Draft) -> Desk
     requires { ⌜ Valid s ⌝ }
-    ensures { λ r. ⌜ Plays (asks-run-fdt clock draft) s r ⌝ }
+    ensures { λ r. ⌜ PlaysCall (asks-run-fdt clock draft) s r ⌝ }
 {
     let r = s.run_fdt(clock, draft);
     let answer = r.answer;
@@ -157,7 +157,7 @@ fn run_fdt(mut s: Sender, clock: u64, draft: Draft) -> Desk
 
 fn run(mut s: Sender, i: u64, clock: u64) -> Desk
     requires { ⌜ Valid s ⌝ }
-    ensures { λ r. ⌜ Plays (asks-run i clock) s r ⌝ }
+    ensures { λ r. ⌜ PlaysCall (asks-run i clock) s r ⌝ }
 {
     let r = s.run(i, clock);
     let answer = r.answer;
@@ -260,7 +260,7 @@ fn no_sessions() -> Setup {
 // The desk after a command, with the reply to it.
 pub(crate) fn play(d: Desk, c: Command) -> Desk
     requires { ⌜ Valid (d .sender) ⌝ }
-    ensures { λ r. ⌜ Answers c d r × Begins c d r × Stays c d r ⌝ }
+    ensures { λ r. ⌜ Answers c d r × SetUpAnswers c d r × Stays c d r ⌝ }
 {
     let s = d.sender;
     match c {
@@ -279,6 +279,10 @@ pub(crate) fn play(d: Desk, c: Command) -> Desk
             sbn,
         } => replied(d.open, s, raw_length(large, small, bigs, l, e, sbn)),
         Command::Drain { l, e, b, w } => replied(d.open, s, Reply::Drained { l, e, b, w }),
+        Command::WriteRecord { record, room } => {
+            replied(d.open, s, crate::reply::record_reply(record, room))
+        }
+        Command::ReadRecord(found) => replied(d.open, s, crate::reply::reading_reply(found)),
         _ => called(d, c),
     }
 }

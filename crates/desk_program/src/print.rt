@@ -68,6 +68,8 @@ fn put_reply<'a>(out: &mut [u8], objects: &'a [u8], fdts: &'a [u8], reply: Reply
             put_taken(out, at, taken)
         }
         Reply::Cut(p) => put_partition(out, p),
+        Reply::Written { record, room } => record_program::put_written(out, record, room),
+        Reply::Fields(r) => record_program::put_fields(out, r),
         _ => put_short(out, reply),
     }
 }
@@ -78,16 +80,10 @@ fn put_named(out: &mut [u8], name: &[u8], n: u64) -> usize {
     text::put_number(out, at, n)
 }
 
-// A blank and a number, behind the first `at` bytes.
-fn put_next(out: &mut [u8], at: usize, n: u64) -> usize {
-    let from = text::put_text(out, at, b" ");
-    text::put_number(out, from, n)
-}
-
-// The same, or a blank and a dash where there is no number.
+// A blank and a number behind the first `at` bytes, or a blank and a dash where there is no number.
 fn put_maybe(out: &mut [u8], at: usize, given: bool, n: u64) -> usize {
     if given {
-        return put_next(out, at, n);
+        return text::put_next(out, at, n);
     }
     text::put_text(out, at, b" -")
 }
@@ -95,14 +91,14 @@ fn put_maybe(out: &mut [u8], at: usize, given: bool, n: u64) -> usize {
 // Was the draft taken?
 fn put_taken(out: &mut [u8], at: usize, taken: bool) -> usize {
     let from = text::put_text(out, at, b" taken");
-    put_next(out, from, taken as u64)
+    text::put_next(out, from, taken as u64)
 }
 
 fn put_partition(out: &mut [u8], p: Partition) -> usize {
     let a = text::put_number(out, 0, p.large);
-    let b = put_next(out, a, p.small);
-    let c = put_next(out, b, p.bigs);
-    put_next(out, c, p.blocks)
+    let b = text::put_next(out, a, p.small);
+    let c = text::put_next(out, b, p.bigs);
+    text::put_next(out, c, p.blocks)
 }
 
 // `packet KIND TOI ID SBN ESI CLOSE TOTAL SYMBOLS LENGTH START SUM`.
@@ -111,15 +107,15 @@ fn put_packet(out: &mut [u8], p: Packet, sum: u64) -> usize {
     let part = y.payload;
     let a = put_file(out, p);
     let b = put_symbol(out, a, y);
-    let c = put_next(out, b, part.size);
+    let c = text::put_next(out, b, part.size);
     let d = put_maybe(out, c, part.size > 0, part.start);
-    put_next(out, d, sum)
+    text::put_next(out, d, sum)
 }
 
 // Up to ID.
 fn put_file(out: &mut [u8], p: Packet) -> usize {
     let a = put_kind(out, p.is_fdt);
-    let b = put_next(out, a, p.toi);
+    let b = text::put_next(out, a, p.toi);
     put_maybe(out, b, p.is_fdt, p.fdt_id as u64)
 }
 
@@ -127,11 +123,11 @@ fn put_file(out: &mut [u8], p: Packet) -> usize {
 fn put_symbol(out: &mut [u8], at: usize, y: Symbol) -> usize {
     let block = y.sbn;
     let symbol = y.esi;
-    let a = put_next(out, at, block.0 as u64);
-    let b = put_next(out, a, symbol.0 as u64);
-    let c = put_next(out, b, y.close as u64);
-    let d = put_next(out, c, y.transfer_length);
-    put_next(out, d, y.symbols)
+    let a = text::put_next(out, at, block.0 as u64);
+    let b = text::put_next(out, a, symbol.0 as u64);
+    let c = text::put_next(out, b, y.close as u64);
+    let d = text::put_next(out, c, y.transfer_length);
+    text::put_next(out, d, y.symbols)
 }
 
 fn put_kind(out: &mut [u8], is_fdt: bool) -> usize {

@@ -4,7 +4,7 @@ ghost use Rattle.sizes.specs.Allocator.{given-said, known-said};
 ghost use Rattle.sizes.specs.Partition.{length-said};
 ghost use Rattle.lifecycle.specs.FdtCalls.{publication-said};
 ghost use Rattle.sender.specs.SenderCalls.{alloc-answer, add-answer, file-answer, fdt-answer};
-ghost use Rattle.desk_program.specs.Replies.{Says, set-up-said, truth-said, total-said, length-shown};
+ghost use Rattle.desk_program.specs.Replies.{Says, set-up-said, truth-said, total-said, length-shown, record-shown, reading-shown};
 use lifecycle::fdt::Publication;
 use lifecycle::fdt::Transfers;
 use sender::sender::AddAnswer;
@@ -15,6 +15,8 @@ use sizes::partition::Partition;
 use sizes::refusal::Refusal;
 use sizes::toiallocator::Given;
 use sizes::toiallocator::Known;
+use wire::record::Reading;
+use wire::record::Record;
 
 pub enum Reply {
     // to an empty line and a comment
@@ -37,6 +39,10 @@ pub enum Reply {
     // of calls that need no sender
     Cut(Partition),
     Drained { l: u64, e: u64, b: u64, w: u64 },
+    // a record that can be written into a buffer with this room
+    Written { record: Record, room: u8 },
+    // the fields of a record that was read
+    Fields(Record),
 }
 
 pub fn set_up_reply(ok: bool) -> Reply
@@ -126,5 +132,25 @@ pub fn length_reply(a: BlockLength) -> Reply
     match a {
         BlockLength::Bytes(n) => Reply::Number(n),
         BlockLength::Nothing => Reply::Missing,
+    }
+}
+
+// A reply holds no bytes: those of a record that can be written are put into its text.
+pub fn record_reply(r: Record, room: u8) -> Reply
+    ensures { λ a. ⌜ a ≡ record-shown r room ⌝ }
+{
+    if record_program::is_writable(r, room) {
+        Reply::Written { record: r, room }
+    } else {
+        Reply::Refused(Refusal::Record)
+    }
+}
+
+pub fn reading_reply(a: Reading) -> Reply
+    ensures { λ r. ⌜ r ≡ reading-shown a ⌝ }
+{
+    match a {
+        Reading::Fields(r) => Reply::Fields(r),
+        Reading::Refused => Reply::Refused(Refusal::Record),
     }
 }

@@ -13,9 +13,6 @@ use libc::STDOUT_FILENO;
 use sender::blockencoder::BlockEncoder;
 use text::Field;
 
-// The longest line that is read. One that fills the reading buffer may be cut there, so it is refused.
-const LONGEST: usize = 65535;
-
 // Writes the answer to one line.
 pub fn answer(line: &[u8]) {
     let Four::Numbers { l, e, b, w } = read_four(line) else {
@@ -48,7 +45,7 @@ enum Four {
 }
 
 fn read_four(line: &[u8]) -> Four {
-    if LONGEST < line.len() {
+    if text::LONGEST < line.len() {
         return Four::Bad;
     }
     let Field::Value { value: l, next: i } = text::next_number(line, 0) else {

@@ -1,14 +1,20 @@
--- What it means that the numbers of a write fit.
-use mathlib.Core.Path.{_≡_}
+-- What it means that the numbers of a write fit, and that there is room for its record.
+use mathlib.Core.Path.{_≡_, refl, _∙_, ap}
 use mathlib.Core.Bool.{Bool, true, false, _&&_}
 use mathlib.Core.List.{List}
 use mathlib.Core.Logic.{⊎-elim}
 use Prim.Native.Nat.{ℕ, _^_, _<_, _≤_}
+use native.Mathlib.Omega.{arith}
 use borrow.Author.Tests.{lt-ltb, le-leb, leb-true, ltb-true}
 use lib.Dec.{leb, ltb}
-use lib.ListN.{getD}
+use lib.ListN.{length, getD}
+use Rattle.sizes.specs.Words.{if_then_else_}
 use Rattle.text.proofs.Lists.{bool-cases, both}
-use Rattle.record_program.specs.Numbers.{fit}
+use Rattle.wire.specs.Record.{record-size, good, writable, done, write-said, write-answer, Writes}
+use Rattle.wire.specs.declared.record.Record.{Record}
+use Rattle.wire.specs.declared.record.Writing.{Writing}
+use Rattle.wire.specs.declared.record.Writing.the-variants.{Done, Refused}
+use Rattle.record_program.specs.Numbers.{fit, room-for}
 
 -- all but the buffer
 pub record Fields (a : List ℕ) : Type 0 where
@@ -54,3 +60,18 @@ module _ (a : List ℕ) where
 
   pub unfit : (Fields a → ⊥) → fit a ≡ false
   unfit f = ⊎-elim (λ (t : fit a ≡ true). absurd (f (fitting t .0))) (λ (t : fit a ≡ false). t) (bool-cases (fit a))
+
+abbrev pub is-done : Writing → Bool
+is-done Done = true
+is-done Refused = false
+
+told : (a : Writing) (b : Bool) → write-said a ≡ (if b then done else write-said Refused) → is-done a ≡ b
+told Done true h = refl
+told Done false h = let z : _≡_ {A = ℕ} 0 1 = cc in absurd (omega arith)
+told Refused true h = let z : _≡_ {A = ℕ} 0 1 = cc in absurd (omega arith)
+told Refused false h = refl
+
+-- a write is done exactly where there is room for the record
+pub room-told : {out after : List ℕ} {room : ℕ} {r : Record} {a : Writing} → Writes out r a after → length out ≡ room → is-done a ≡ room-for room r
+unfolding write-answer writable room-for
+room-told {out} {after} {room} {r} {a} w e = told a (writable out r) (w .answer) ∙ ap (λ n. leb record-size n && good r) e

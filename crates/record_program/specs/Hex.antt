@@ -49,14 +49,14 @@ spelled (a ∷ []) = none
 spelled (a ∷ (b ∷ l)) = in-front (pair-value (value-of a) (value-of b)) (spelled l)
 
 -- what read_hex says of a word: how many bytes of the buffer are those that the word spells; or that it spells none
-abbrev pub said : List ℕ → Spelled → Option (List ℕ)
-said out (Bytes n) = some (take n out)
-said out NoBytes = none
+abbrev pub spelled-said : List ℕ → Spelled → Option (List ℕ)
+spelled-said out (Bytes n) = some (take n out)
+spelled-said out NoBytes = none
 
 abbrev pub Within : List ℕ → Spelled → Type 0
 Within out (Bytes n) = n ≤ length out
 Within out NoBytes = Unit {0}
 
-pub record Reads (w out : List ℕ) (r : Spelled) : Type 0 where
-  pub exact : said out r ≡ spelled w
+pub record HexRead (w out : List ℕ) (r : Spelled) : Type 0 where
+  pub exact : spelled-said out r ≡ spelled w
   pub inside : Within out r

@@ -3,7 +3,7 @@ ghost use mathlib.Core.Path.{_≡_};
 ghost use Prim.Native.Nat.{_+_, _*_, _<_, _≤_};
 ghost use lib.ListN.{length};
 ghost use Rattle.text.specs.Put.{Put, Appended};
-ghost use Rattle.record_program.specs.Hex.{digit-of, byte-text, hex-of, value-of, pair-value, Reads};
+ghost use Rattle.record_program.specs.Hex.{digit-of, byte-text, hex-of, value-of, pair-value, HexRead};
 
 // A digit for a number below 16, in lower case.
 fn digit(n: u8) -> u8
@@ -88,7 +88,7 @@ pub enum Spelled {
 
 // Puts the bytes that w spells in hex at the front of out, where there is room for them.
 pub fn read_hex(w: &[u8], out: &mut [u8]) -> Spelled
-    ensures { λ r. ⌜ (length (now (w .entry)) ≤ 2 * length (now (out .entry)) → Reads (now (w .entry)) (now (out .exit)) r) ⌝ }
+    ensures { λ r. ⌜ (length (now (w .entry)) ≤ 2 * length (now (out .entry)) → HexRead (now (w .entry)) (now (out .exit)) r) ⌝ }
 {
     let n = w.len() / 2;
     if out.len() < n {

@@ -21,21 +21,6 @@ slice-aggregate-write c = sym (length-take-le _ _ (omega arith))
 write-requires : tie.Need-write-requires
 write-requires c κs = search needs
 
-enum-told : tie.Need-enum-told
-enum-told c = search needs
-
-enum-told-2 : tie.Need-enum-told-2
-enum-told-2 c = search needs
-
-put-refused-requires : tie.Need-put-refused-requires
-put-refused-requires c κs = search needs
-
-same-length : tie.Need-same-length
-same-length c = search needs
-
-returns : tie.Need-returns
-returns c = search needs
-
 slice-aggregate-put-text : tie.Need-slice-aggregate-put-text
 slice-aggregate-put-text c = search needs
 
@@ -48,11 +33,11 @@ part-requires c κs = search needs
 put-hex-requires : tie.Need-put-hex-requires
 put-hex-requires c κs = search needs
 
-same-length-2 : tie.Need-same-length-2
-same-length-2 c = search needs
+same-length : tie.Need-same-length
+same-length c = search needs
 
-returns-2 : tie.Need-returns-2
-returns-2 c = search needs
+returns : tie.Need-returns
+returns c = search needs
 
 pub put-written-spec : {M : Type 1} → statement M
 put-written-spec =
@@ -63,14 +48,9 @@ put-written-spec =
     slice-relend-prefix-write
     slice-aggregate-write
     write-requires
-    enum-told
-    enum-told-2
-    put-refused-requires
-    same-length
-    returns
     slice-aggregate-put-text
     put-text-requires
     part-requires
     put-hex-requires
-    same-length-2
-    returns-2)
+    same-length
+    returns)

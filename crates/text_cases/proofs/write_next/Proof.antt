@@ -1,8 +1,8 @@
--- `text_cases::put_next` meets its contract: a word ends behind the place from which it is looked for.
+-- `text_cases::write_next` meets its contract: a word ends behind the place from which it is looked for.
 use native.Mathlib.Omega.{arith}
 use borrow.Author.Needs.{needs}
-use Rattle.text_cases.proofs.put_next.Statement.{statement}
-use Rattle.text_cases.proofs.put_next.Tie as tie
+use Rattle.text_cases.proofs.write_next.Statement.{statement}
+use Rattle.text_cases.proofs.write_next.Tie as tie
 
 next-word-requires : tie.Need-next-word-requires
 next-word-requires c κs = search needs
@@ -33,8 +33,8 @@ returns-2 c =
     let w = c .before .before .before .before in
     omega (arith, w .before .before .next-word .ensures .inside _ _ (w .start .given .1))
 
-pub put-next-spec : {M : Type 1} → statement M
-put-next-spec =
+pub write-next-spec : {M : Type 1} → statement M
+write-next-spec =
     tie.close
     (tie.spec
     next-word-requires
