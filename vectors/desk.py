@@ -6,11 +6,12 @@ it writes the answers, crates/desk/stdout.
 
 ORACLE is the original Rust (src/sender/ as it is) behind a program that reads the language of oracle/README.md, one call a
 line. Every call that is accepted is given to it, and its answers are stored; on the way they are held to those of the model,
-oracle/tools/model.py. The answers to three kinds of lines are not the Rust's:
+oracle/tools/model.py. The answers to four kinds of lines are not the Rust's:
 
 - `refused N` is the model's: the Rust has no such refusals and is not given these calls. `refused` alone answers a `drain`
   whose numbers are not admitted.
 - `error` is stated here, for lines that cannot be read and for calls where there is no sender.
+- Those to commands on records are stated in vectors/record.py: the Rust has no records.
 - In the scripts of oracle/claims on which the two differ (docs/DIFFERENCES.md), the answers are the model's.
 
 The random scripts are those of oracle/tools/gen.py; another Python than 3.11 may draw others.
@@ -26,6 +27,8 @@ ROOT = pathlib.Path(__file__).resolve().parent.parent
 CASES, LESSON = ROOT / "crates" / "desk_cases", ROOT / "crates" / "desk"
 sys.path.insert(0, str(ROOT / "oracle" / "tools"))
 
+import record
+import sizes
 from gen import generate
 from model import SECOND, Script
 
@@ -344,6 +347,16 @@ def no_sender():
     yield from rust("reserve")
 
 
+def partitions():
+    yield from silent("# partitions and block lengths")
+    yield from rust(*sizes.calls())
+
+
+def records():
+    yield from silent("# records")
+    yield from (Case(line, "stated", [answer]) for line, answer in record.cases())
+
+
 # The lesson.
 
 def lesson():
@@ -390,7 +403,7 @@ def write(folder, name, lines):
 
 def main():
     parts = [first_lines, random_scripts, refusals, claims, refused_setups, not_cut, store_ends, rare, unread_lines, spoilt_scripts,
-             spaced_scripts, no_sender]
+             spaced_scripts, no_sender, partitions, records]
     cases = list(answered(sys.argv[1], [case for part in parts for case in part()]))
     write(CASES, "stdin", [case.line for case in cases])
     write(CASES, "stdout", [line for case in cases for line in case.answer])

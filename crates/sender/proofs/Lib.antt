@@ -5,7 +5,6 @@ pub mod EncoderViews
 pub mod Offsets
 pub mod EncoderReads
 pub mod EncoderPromises
-pub mod DrainLaws
 pub mod SessionFacts
 pub mod SessionLaws
 pub mod SessionRounds

@@ -1,4 +1,4 @@
--- `text::line::first_line` meets its contract: `next` is the lesser of the two places that `line-of` names.
+-- `text::line::first_line` meets its contract: `next` is the lesser of the two places that `line-from` names.
 use mathlib.Core.Path.{sym}
 use Prim.Native.Nat.{_+_}
 use native.Mathlib.Omega.{arith}
@@ -6,7 +6,7 @@ use borrow.Author.Needs.{needs}
 use native.Mathlib.Nat.{min-eq-left, min-eq-right}
 use lib.Seq.{length-take-le}
 use Rattle.text.specs.Bytes.{member}
-use Rattle.text.specs.Lines.{line-of}
+use Rattle.text.specs.Lines.{line-from}
 use Rattle.text.proofs.line.first_line.Statement.{statement}
 use Rattle.text.proofs.line.first_line.Tie as tie
 
@@ -20,11 +20,11 @@ add-t11 : tie.Need-add-t11
 add-t11 c = search needs
 
 returns : tie.Need-returns
-unfolding line-of member
+unfolding line-from member
 returns c = rw (← c .before .pass .ensures, min-eq-left {n = c .before .pass .result + 1} {m = c .before .before .before .before .args .to} (omega arith))
 
 returns-2 : tie.Need-returns-2
-unfolding line-of member
+unfolding line-from member
 returns-2 c = rw (← c .before .pass .ensures, min-eq-right {n = c .before .before .before .before .args .to} {m = c .before .pass .result + 1} (omega arith))
 
 pub first-line-spec : {M : Type 1} → statement M

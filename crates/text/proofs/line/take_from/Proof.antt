@@ -7,7 +7,7 @@ use mathlib.Core.Bool.{Bool, true, false}
 use mathlib.Core.Logic.{inl, inr}
 use lib.ListN.{length}
 use Rattle.text.specs.Bytes.{part}
-use Rattle.text.specs.Lines.{StartsWith, line-of}
+use Rattle.text.specs.Lines.{StartsWith, line-from}
 use Rattle.text.specs.declared.line.Input.{Input}
 use Rattle.text.proofs.Lists.{part-length}
 use Rattle.text.proofs.Lines.{starts-self, starts-refilled, taken}
@@ -46,7 +46,7 @@ same-length-2 : tie.Need-same-length-2 Inv-loop μ-loop
 same-length-2 c = search needs
 
 returns-2 : tie.Need-returns-2 Inv-loop μ-loop
-unfolding line-of
+unfolding line-from
 returns-2 c =
     let l = c .before .before .before .before .before in
     let f = c .before .before .first-line2 .ensures in
