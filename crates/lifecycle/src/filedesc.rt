@@ -4,9 +4,12 @@ ghost use Prim.Native.Nat.{_+_, _-_, _<_, min, max};
 ghost use lib.Dec.{ltb};
 ghost use mathlib.Core.Bool.{false};
 ghost use Rattle.sizes.specs.Words.{maybe};
+ghost use Rattle.sizes.specs.Limits.{largest-count, largest-total};
 ghost use Rattle.lifecycle.specs.Lifecycle.{expired, is-last, may-start, may-stop, too-early, round-due};
 ghost use Rattle.lifecycle.specs.FileDesc.{time-of, plan-of, life-of, pace-said, with-life, started-life, done-life, published-life, reset-life, rule-named, with-carousel, with-target, pace-at, ticked-of, file-new, startable-file};
 use crate::parts::Part;
+use sizes::limits::LARGEST_COUNT;
+use sizes::limits::LARGEST_TOTAL;
 use sizes::partition::Sizes;
 use sizes::partition::div_ceil;
 
@@ -431,16 +434,16 @@ impl Life {
     }
 }
 
-// One more, up to the largest number of 32 bits.
+// One more, up to the largest count.
 fn up32(n: u32) -> u32
-    ensures { λ r. ⌜ r ≡ min (n + 1) 4294967295 ⌝ }
+    ensures { λ r. ⌜ r ≡ min (n + 1) largest-count ⌝ }
 {
-    if n < 0xFFFF_FFFF { n + 1 } else { n }
+    if n < LARGEST_COUNT { n + 1 } else { n }
 }
 
-// One more, up to the largest number of 64 bits.
+// One more, up to the largest total.
 fn up64(n: u64) -> u64
-    ensures { λ r. ⌜ r ≡ min (n + 1) 18446744073709551615 ⌝ }
+    ensures { λ r. ⌜ r ≡ min (n + 1) largest-total ⌝ }
 {
-    if n < 0xFFFF_FFFF_FFFF_FFFF { n + 1 } else { n }
+    if n < LARGEST_TOTAL { n + 1 } else { n }
 }

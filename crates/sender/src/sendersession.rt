@@ -1,7 +1,7 @@
 // A file session: it has one object in hand at a time and sends its packets (src/sender/sendersession.rs).
 ghost use mathlib.Core.Path.{_≡_};
 ghost use Prim.Native.Nat.{_<_, _≤_};
-ghost use Rattle.sizes.specs.Limits.{object-slots};
+ghost use Rattle.sizes.specs.Limits.{object-slots, largest-window};
 ghost use Rattle.lifecycle.specs.Slots.{slot-at};
 ghost use Rattle.sender.specs.EncoderCalls.{Valid as EncoderValid};
 ghost use Rattle.sender.specs.SessionCalls.{Ready, Holds, Runs, no-encoder, idle-of, begun-of, forced-slot, served-of, attended-of, taken-on-of, ran-of};
@@ -15,6 +15,7 @@ use lifecycle::filedesc::FileDesc;
 use lifecycle::filedesc::Pace;
 use lifecycle::parts::Part;
 use lifecycle::slots::Place;
+use sizes::limits::LARGEST_WINDOW;
 use sizes::numbers::Sbn;
 use sizes::partition::Partition;
 use sizes::partition::Sizes;
@@ -70,7 +71,7 @@ pub fn no_encoder() -> BlockEncoder
         next: Sbn(0),
         filled: 0,
         index: 0,
-        window: [none; 16],
+        window: [none; LARGEST_WINDOW],
     }
 }
 
@@ -195,7 +196,7 @@ impl SenderSession {
 
     // With nothing in hand: the first in the queue that may start is taken.
     fn take_on(mut self, mut fdt: Fdt, width: usize, now: u64) -> Ran
-        requires { ⌜ Holds fdt × (width ≤ 16) ⌝ }
+        requires { ⌜ Holds fdt × (width ≤ largest-window) ⌝ }
         ensures { λ r. ⌜ r ≡ taken-on-of width now fdt self ⌝ }
     {
         let t = fdt.get_next_file_transfer(self.priority, now);

@@ -76,9 +76,9 @@ unfolding opening
 valid-opening w n =
     record {
       wide = (w, refl);
-      sized = length-replicate 64 no-entry;
+      sized = length-replicate toi-entries no-entry;
       room = omega arith;
-      clear = λ i h. blank 64 i;
+      clear = λ i h. blank toi-entries i;
       once = λ m. omega arith;
       ranged = tt;
       next-ranged = first-range (bits w) n (width-16 (bits w) (w, refl));
