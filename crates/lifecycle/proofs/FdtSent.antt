@@ -12,13 +12,14 @@ use Rattle.sizes.specs.Limits.{waiting-fdts}
 use Rattle.lifecycle.specs.FileDesc.{started-life, done-life}
 use Rattle.lifecycle.specs.Setup.{bad-blocks}
 use Rattle.lifecycle.specs.Announce.{fdt-rule, next-of, bad-fdt-of, queued-of}
-use Rattle.lifecycle.specs.Slots.{no-slot, slot-at, place-said, published-slot}
+use Rattle.lifecycle.specs.Slots.{no-slot, slot-at, published-slot}
 use Rattle.lifecycle.specs.FdtCalls.{sends, Valid, completed-of, reserved-of, released-of, own-of, added-of, taken-of, done-of, announced, publish-of, next-fdt-of, fdt-done-of}
 use Rattle.lifecycle.specs.FdtMeans.{SentSame, ListAdds, refused, admits, Takes, nothing, takes, is-taken, Ends, idle, back, gone}
 use Rattle.lifecycle.specs.declared.parts.Part.{Part}
 use Rattle.lifecycle.specs.declared.slots.Slot.{Slot}
-use Rattle.lifecycle.specs.declared.slots.Place.{Place}
-use Rattle.lifecycle.specs.declared.slots.Place.the-variants.{At, Nothing}
+use Rattle.sizes.specs.Place.{place-said}
+use Rattle.sizes.specs.declared.place.Place.{Place}
+use Rattle.sizes.specs.declared.place.Place.the-variants.{At, Nothing}
 use Rattle.lifecycle.specs.declared.announce.Announcer.{Announcer}
 use Rattle.lifecycle.specs.declared.announce.Draft.{Draft}
 use Rattle.lifecycle.specs.declared.fdt.Fdt.{Fdt}

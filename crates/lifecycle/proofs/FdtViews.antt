@@ -23,7 +23,7 @@ use Rattle.lifecycle.specs.FdtCalls.{waiting, files, sends, used, waits,
 use Rattle.lifecycle.specs.FdtCalls.{started-slot, ended-slot}
 use Rattle.lifecycle.specs.FdtMeans.{file-at, Listed, Seen, Takes, nothing, takes, Ends, idle, back, gone, published-file}
 use Rattle.lifecycle.specs.declared.slots.Slot.{Slot}
-use Rattle.lifecycle.specs.declared.slots.Place.the-variants.{At}
+use Rattle.sizes.specs.declared.place.Place.the-variants.{At}
 use Rattle.lifecycle.specs.declared.fdt.Fdt.{Fdt}
 use Rattle.lifecycle.proofs.FdtFacts.{maybe-on, if-on, one-true, toi-in, toi-used, used-listed, used-sends, waits-not, waits-at, absent, room, number-held, waiting-shut, waiting-push}
 

@@ -97,22 +97,10 @@ pub fn will_expire(validity: u64, elapsed: u64) -> bool
 fn no_fdt() -> Instance
     ensures { λ r. ⌜ r ≡ no-instance ⌝ }
 {
-    let none = Time {
-        known: false,
-        at: 0,
-    };
     Instance {
         id: 0,
         part: Part { start: 0, size: 0 },
-        life: Life {
-            published: false,
-            transferring: false,
-            count: 0,
-            total: 0,
-            last_start: none,
-            last_end: none,
-            named_start: none,
-        },
+        life: Life::new(Time::none()),
     }
 }
 
@@ -136,23 +124,9 @@ impl Instance {
     fn new(id: u32, part: Part) -> Instance
         ensures { λ r. ⌜ r ≡ first-instance id part ⌝ }
     {
-        let none = Time {
-            known: false,
-            at: 0,
-        };
-        Instance {
-            id,
-            part,
-            life: Life {
-                published: true,
-                transferring: false,
-                count: 0,
-                total: 0,
-                last_start: none,
-                last_end: none,
-                named_start: none,
-            },
-        }
+        let mut life = Life::new(Time::none());
+        life.published = true;
+        Instance { id, part, life }
     }
 
     // Its transfer starts.
@@ -180,10 +154,7 @@ impl Announcer {
         let none = no_fdt();
         Announcer {
             fdtid: first_id,
-            last_publish: Time {
-                known: false,
-                at: 0,
-            },
+            last_publish: Time::none(),
             queue: [none; WAITING_FDTS],
             waiting: 0,
             has_current: false,

@@ -2,7 +2,8 @@
 ghost use mathlib.Core.Path.{_≡_};
 ghost use mathlib.Core.List.{map};
 ghost use Rattle.sizes.specs.Words.{place, any};
-ghost use Rattle.lifecycle.specs.Slots.{no-slot, place-said, is-free, is-listed-as, holds-byte, published-slot};
+ghost use Rattle.sizes.specs.Place.{place-said};
+ghost use Rattle.lifecycle.specs.Slots.{no-slot, is-free, is-listed-as, holds-byte, published-slot};
 use crate::filedesc::Carousel;
 use crate::filedesc::FileDesc;
 use crate::filedesc::Rule;
@@ -11,6 +12,7 @@ use crate::filedesc::Time;
 use crate::parts::Part;
 use sizes::limits::OBJECT_SLOTS;
 use sizes::partition::Sizes;
+use sizes::place::Place;
 
 // A held object: how many hold it (the list, a session), and whether the list does.
 #[repr(C)]
@@ -20,12 +22,6 @@ pub struct Slot {
     pub file: FileDesc,
 }
 
-// Where something stands.
-pub enum Place {
-    At(usize),
-    Nothing,
-}
-
 // A slot with nothing in it: all zeros.
 pub fn no_slot() -> Slot
     ensures { λ r. ⌜ r ≡ no-slot ⌝ }
@@ -33,14 +29,10 @@ pub fn no_slot() -> Slot
     let part = Part { start: 0, size: 0 };
     let sizes = Sizes { e: 0, b: 0 };
     let rule = Rule::new(0, Carousel::Never, Target::AtOnce, false);
-    let never = Time {
-        known: false,
-        at: 0,
-    };
     Slot {
         holders: 0,
         listed: false,
-        file: FileDesc::new(0, 0, part, sizes, rule, never),
+        file: FileDesc::new(0, 0, part, sizes, rule, Time::none()),
     }
 }
 

@@ -21,8 +21,8 @@ use Rattle.lifecycle.specs.Setup.{Setup}
 use Rattle.lifecycle.specs.Slots.{no-slot, slot-at, queue-startable}
 use Rattle.lifecycle.specs.Announce.{state-of, waits-of}
 use Rattle.lifecycle.specs.FdtCalls.{waiting, sends, taken-at, taken-of, goes-back, back-of, let-go-of, done-of}
-use Rattle.lifecycle.specs.declared.slots.Place.{Place}
-use Rattle.lifecycle.specs.declared.slots.Place.the-variants as PlaceV
+use Rattle.sizes.specs.declared.place.Place.{Place}
+use Rattle.sizes.specs.declared.place.Place.the-variants as PlaceV
 use Rattle.lifecycle.specs.declared.fdt.Fdt.{Fdt}
 use Rattle.lifecycle.specs.declared.fdt.Taken.{Taken}
 use Rattle.lifecycle.specs.declared.announce.Announcer.{Announcer}

@@ -19,7 +19,7 @@ use Rattle.lifecycle.specs.FdtCalls.{files, sends, taken-of, done-of}
 use Rattle.lifecycle.specs.FdtCalls.{started-slot}
 use Rattle.lifecycle.specs.FdtMeans.{file-at, Waits, Seen, Takes, nothing, takes}
 use Rattle.lifecycle.specs.declared.slots.Slot.{Slot}
-use Rattle.lifecycle.specs.declared.slots.Place.{Place}
+use Rattle.sizes.specs.declared.place.Place.{Place}
 use Rattle.lifecycle.specs.declared.fdt.Fdt.{Fdt}
 use Rattle.lifecycle.specs.declared.fdt.Taken.{Taken}
 use Rattle.lifecycle.proofs.FdtFacts.{used-sends}

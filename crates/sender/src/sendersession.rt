@@ -14,11 +14,12 @@ use lifecycle::fdt::Fdt;
 use lifecycle::filedesc::FileDesc;
 use lifecycle::filedesc::Pace;
 use lifecycle::parts::Part;
-use lifecycle::slots::Place;
+use lifecycle::slots::Slot;
 use sizes::limits::LARGEST_WINDOW;
 use sizes::numbers::Sbn;
 use sizes::partition::Partition;
 use sizes::partition::Sizes;
+use sizes::place::Place;
 
 // `slot` is the object in hand while `busy`; the due time and the tick are its transfer's.
 #[repr(C)]
@@ -75,13 +76,10 @@ pub fn no_encoder() -> BlockEncoder
     }
 }
 
-// Is the transfer of the object in slot k to be forced to its end: it may be stopped, and is not listed?
-fn is_forced(fdt: Fdt, k: usize) -> bool
-    requires { ⌜ k < object-slots ⌝ }
-    ensures { λ r. ⌜ r ≡ forced-slot (slot-at (fdt .slots) k) ⌝ }
+// Is the transfer of the object in a slot to be forced to its end: it may be stopped, and is not listed?
+pub fn is_forced(v: Slot) -> bool
+    ensures { λ r. ⌜ r ≡ forced-slot v ⌝ }
 {
-    let slots = fdt.slots;
-    let v = slots[k];
     if v.listed {
         return false;
     }
@@ -89,14 +87,13 @@ fn is_forced(fdt: Fdt, k: usize) -> bool
     file.can_transfer_be_stopped()
 }
 
-// The object in slot k.
-fn file_at(fdt: Fdt, k: usize) -> FileDesc
+// Slot k of the list.
+fn slot_at(fdt: Fdt, k: usize) -> Slot
     requires { ⌜ k < object-slots ⌝ }
-    ensures { λ r. ⌜ r ≡ slot-at (fdt .slots) k .file ⌝ }
+    ensures { λ r. ⌜ r ≡ slot-at (fdt .slots) k ⌝ }
 {
     let slots = fdt.slots;
-    let v = slots[k];
-    v.file
+    slots[k]
 }
 
 impl SenderSession {
@@ -108,11 +105,7 @@ impl SenderSession {
             priority,
             busy: false,
             slot: 0,
-            pace: Pace {
-                paced: false,
-                due: 0,
-                tick: 0,
-            },
+            pace: Pace::none(),
             encoder: no_encoder(),
         }
     }
@@ -175,7 +168,7 @@ impl SenderSession {
         ensures { λ r. ⌜ r ≡ attended-of now fdt self ⌝ }
     {
         let k = self.slot;
-        let r = self.serve(is_forced(fdt, k), fdt.need_transfer_fdt(), now);
+        let r = self.serve(is_forced(slot_at(fdt, k)), fdt.need_transfer_fdt(), now);
         let answer = r.answer;
         if let Served::Over = answer {
             fdt = fdt.transfer_done(k, now);
@@ -209,7 +202,7 @@ impl SenderSession {
                 session: self,
             };
         };
-        self = SenderSession::begin(self.priority, k, file_at(fdt, k), width, now);
+        self = SenderSession::begin(self.priority, k, slot_at(fdt, k).file, width, now);
         self.attend(fdt, now)
     }
 

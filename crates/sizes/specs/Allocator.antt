@@ -19,8 +19,6 @@ use Rattle.sizes.specs.declared.toiallocator.Given.{Given}
 use Rattle.sizes.specs.declared.toiallocator.Given.the-variants.{Number, Full}
 use Rattle.sizes.specs.declared.toiallocator.Known.{Known}
 use Rattle.sizes.specs.declared.toiallocator.Known.the-variants.{Done, Unknown}
-use Rattle.sizes.specs.declared.toiallocator.Place.{Place}
-use Rattle.sizes.specs.declared.toiallocator.Place.the-variants.{At, Nothing}
 use Rattle.sizes.specs.declared.toiallocator.Allocated.{Allocated}
 use Rattle.sizes.specs.declared.toiallocator.Changed.{Changed}
 
@@ -73,11 +71,6 @@ loose a = collect loose-in (noted a)
 
 abbrev pub bound : ToiAllocator → List ℕ
 bound a = collect bound-in (noted a)
-
--- what a search says
-abbrev pub place-said : Place → Option ℕ
-place-said (At i) = some i
-place-said Nothing = none
 
 -- is it the entry of a loose reservation (or of an object) with this number
 unfoldable pub entry-is : ℕ → Bool → Entry → Bool

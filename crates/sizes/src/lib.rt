@@ -2,5 +2,6 @@
 pub mod limits;
 pub mod numbers;
 pub mod partition;
+pub mod place;
 pub mod refusal;
 pub mod toiallocator;

@@ -1,4 +1,4 @@
-// The largest numbers that are admitted, each once and by name, as in specs/Limits.antt.
+// The largest numbers that are admitted, each once and by name, as in specs/Limits.antt; the proof of a function that uses one holds it to that.
 
 // The longest symbol, in bytes (E).
 pub const LARGEST_SYMBOL: u64 = 65_535;

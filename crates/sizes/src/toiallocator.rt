@@ -4,11 +4,13 @@ ghost use mathlib.Core.Bool.{true, false};
 ghost use Prim.Native.Nat.{_+_, _-_, _<_, _%_, _^_};
 ghost use Rattle.sizes.specs.Words.{has, place, shut};
 ghost use Rattle.sizes.specs.Limits.{toi-entries};
+ghost use Rattle.sizes.specs.Place.{place-said};
 ghost use Rattle.sizes.specs.Toi.{skip-zero, next-toi};
 ghost use Rattle.sizes.specs.Toi.{after as Toi·after};
 ghost use Rattle.sizes.specs.Allocator.{loose as Allocator·loose};
-ghost use Rattle.sizes.specs.Allocator.{bits, Width, held, noted, entry-is, no-entry, place-said, Searchable, noting, claimed-of, dropped-of, Valid, Opened, Gives, Becomes};
+ghost use Rattle.sizes.specs.Allocator.{bits, Width, held, noted, entry-is, no-entry, Searchable, noting, claimed-of, dropped-of, Valid, Opened, Gives, Becomes};
 use crate::limits::TOI_ENTRIES;
+use crate::place::Place;
 
 const LAST_ENTRY: usize = TOI_ENTRIES - 1;
 
@@ -56,12 +58,6 @@ pub enum Known {
 pub struct Changed {
     pub answer: Known,
     pub allocator: ToiAllocator,
-}
-
-// Where an entry stands.
-pub enum Place {
-    At(usize),
-    Nothing,
 }
 
 // How many bits the numbers have.
