@@ -9,11 +9,11 @@ use lib.Dec.{eqb}
 use borrow.Author.Tests.{eqb-true, eq-eqb, ne-eqb}
 use lib.ListN.{length, set, getD, length-set, List·getD-map}
 use lib.Seq.{getD-set-same}
-use Rattle.sizes.specs.Words.{if_then_else_, given, over, at, cut, place, shut, one-if, times, Hit}
+use Rattle.sizes.specs.Words.{if_then_else_, given, over, at, cut, place, shut, one-if, times}
 use Rattle.sizes.specs.Allocator as Alloc
 use Rattle.sizes.specs.declared.toiallocator.ToiAllocator.{ToiAllocator}
 use Rattle.sizes.proofs.Tests.{Tested, pass, fail, tested, and-left, none≢some}
-use Rattle.sizes.proofs.Lists.{Sought, hit, miss, sought, found-first, found-none, at-map, map-append, map-cut, has-none}
+use Rattle.sizes.proofs.Lists.{Hit, Sought, hit, miss, sought, found-first, found-none, at-map, map-append, map-cut, has-none}
 use Rattle.sizes.proofs.Tables.{map-in, find-any, inside, other, none-get}
 use Rattle.sizes.proofs.Collects.{adds, at-inside, collect-set, collect-at}
 use Rattle.sizes.proofs.AllocatorViews.{held-split, freed-view}

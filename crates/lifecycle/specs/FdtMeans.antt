@@ -7,10 +7,11 @@ use Prim.Native.Nat.{ℕ, _+_, _-_, _<_}
 use lib.Dec.{eqb, ltb}
 use lib.ListN.{length, getD}
 use Rattle.sizes.specs.declared.refusal.Refusal.{Refusal}
-use Rattle.sizes.specs.Words.{if_then_else_, maybe, given, collect, keep, cut, has, place, times, Hit}
+use Rattle.sizes.specs.Words.{if_then_else_, maybe, given, collect, keep, cut, has, place, times}
 use Rattle.sizes.specs.Limits.{toi-entries}
 use Rattle.sizes.specs.Allocator as Alloc
-use Rattle.sizes.specs.Allocator.{Freed}
+use Rattle.sizes.proofs.Lists.{Hit}
+use Rattle.sizes.proofs.AllocatorViews.{Freed}
 use Rattle.sizes.specs.declared.partition.Sizes.{Sizes}
 use Rattle.sizes.specs.declared.toiallocator.ToiAllocator.{ToiAllocator}
 use Rattle.lifecycle.specs.FileDesc.{with-life, reset-life, published-life, startable-file}

@@ -7,10 +7,10 @@ use Prim.Native.Nat.{ℕ, _+_, _≤_}
 use native.Mathlib.Omega.{arith}
 use lib.Dec.{eqb}
 use borrow.Author.Tests.{eqb-true, eq-eqb, ne-eqb}
-use Rattle.sizes.specs.Words.{if_then_else_, maybe, over, cut, place, drop-first, one-if, times, Counts, Hit}
+use Rattle.sizes.specs.Words.{if_then_else_, maybe, over, cut, place, drop-first, one-if, times, Counts}
 use Rattle.sizes.specs.Limits.{largest-window}
 use Rattle.sizes.proofs.Tests.{Tested, pass, fail, tested, and-left, and-right}
-use Rattle.sizes.proofs.Lists.{found-none}
+use Rattle.sizes.proofs.Lists.{Hit, found-none}
 use Rattle.lifecycle.specs.Setup.{Setup}
 use Rattle.lifecycle.specs.FileDesc.{started-life, startable-file}
 use Rattle.lifecycle.specs.Slots.{no-slot, slot-at}
