@@ -21,7 +21,7 @@ use Rattle.definition.specs.Session.{Object, Hand, Session, living, star
 use Rattle.definition.specs.Desk.{Desk, Request, Call, Answer, opening, in-hands, objects, moved, numbered, with-fdt, in-hand, marked, marked-hand, all-published, reserved, toi-for, own-sizes, made, admitted, reserve-refusal, release-refusal, add-refusal, publish-refusal, draft-refusal, draft-of, unless, ran, step, run, unloosed, fdt-queued, fdt-ran, Touch, touched-waiting, touched-hand, touched}
 use Rattle.sizes.specs.Words.{Each}
 use Rattle.sizes.proofs.Tests.{or-left, or-right}
-use Rattle.sizes.proofs.Lists.{each-append, each-keep, each-drop-first, each-map, each-set, each-find, each-at, each-left, each-right}
+use Rattle.sizes.proofs.Lists.{each-append, each-drop-first, each-map, each-set, each-find, each-at, each-left, each-right}
 use Rattle.definition.specs.TotalPromises.{InRange}
 use Rattle.definition.proofs.Weights.{none-yet}
 use Rattle.definition.proofs.Numbers.{blocks-fit}

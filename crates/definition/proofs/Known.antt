@@ -19,7 +19,7 @@ use Rattle.definition.specs.Apart.{mine, noted}
 use Rattle.definition.proofs.View.{retag, seen, seen-append, seen-other}
 use Rattle.sizes.specs.Words.{Each}
 use Rattle.sizes.proofs.Tests.{and-left}
-use Rattle.sizes.proofs.Lists.{each-append, each-keep, each-drop-first, each-map, each-set, each-find, each-at, each-imp, found}
+use Rattle.sizes.proofs.Lists.{each-append, each-drop-first, each-map, each-set, each-find, each-at, each-imp, found}
 use Rattle.definition.proofs.Touches.{touched-kept, touched-hand-kept, each-touched}
 use Rattle.definition.proofs.Runs.{run-goes}
 

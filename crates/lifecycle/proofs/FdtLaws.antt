@@ -23,13 +23,14 @@ use Rattle.lifecycle.proofs.FdtFacts as Facts
 use Rattle.lifecycle.proofs.FdtFacts.{one-true}
 use Rattle.lifecycle.specs.Lifecycle.{expired}
 use Rattle.lifecycle.specs.FileDesc.{plan-of, life-of, with-life, reset-life}
-use Rattle.lifecycle.specs.Slots.{no-slot, slot-at, place-said, is-free, is-listed-as, queue-startable}
+use Rattle.lifecycle.specs.Slots.{no-slot, slot-at, is-free, is-listed-as, queue-startable}
 use Rattle.lifecycle.specs.Setup.{bad-blocks}
 use Rattle.lifecycle.specs.FdtCalls.{waiting, sends, waits, Valid, with-tois, with-slots, own-of, bad-part-of, put-of, refuses, named-of, fresh-of, numbered-of, added-of, transfers-of, unlisted-of, freed-of, removed-of, triggered-of, taken-at, taken-of, ended-file, goes-back, back-of, let-go-of, done-of}
 use Rattle.lifecycle.specs.declared.filedesc.Time.{Time}
 use Rattle.lifecycle.specs.declared.slots.Slot.{Slot}
-use Rattle.lifecycle.specs.declared.slots.Place.{Place}
-use Rattle.lifecycle.specs.declared.slots.Place.the-variants.{At, Nothing}
+use Rattle.sizes.specs.Place.{place-said}
+use Rattle.sizes.specs.declared.place.Place.{Place}
+use Rattle.sizes.specs.declared.place.Place.the-variants.{At, Nothing}
 use Rattle.lifecycle.specs.declared.fdt.Fdt.{Fdt}
 use Rattle.lifecycle.specs.declared.fdt.Named.{Named}
 use Rattle.lifecycle.specs.declared.fdt.Request.{Request}

@@ -7,20 +7,22 @@ use Prim.Native.Nat.{ℕ, _<_}
 use lib.Dec.{eqb, ltb}
 use lib.ListN.{length, getD}
 use Rattle.sizes.specs.declared.refusal.Refusal.{Refusal}
-use Rattle.sizes.specs.Words.{if_then_else_, maybe, given, collect, keep, cut, has, place, times, Hit}
+use Rattle.sizes.specs.Words.{if_then_else_, maybe, given, collect, keep, cut, has, place, times}
 use Rattle.sizes.specs.Limits.{toi-entries}
 use Rattle.sizes.specs.Allocator as Alloc
-use Rattle.sizes.specs.Allocator.{Freed}
+use Rattle.sizes.proofs.Lists.{Hit}
+use Rattle.sizes.proofs.AllocatorViews.{Freed}
 use Rattle.sizes.specs.declared.partition.Sizes.{Sizes}
 use Rattle.sizes.specs.declared.toiallocator.ToiAllocator.{ToiAllocator}
 use Rattle.lifecycle.specs.FileDesc.{with-life, reset-life, published-life, startable-file}
-use Rattle.lifecycle.specs.Slots.{no-slot, slot-at, place-said, is-free, is-listed-as}
+use Rattle.lifecycle.specs.Slots.{no-slot, slot-at, is-free, is-listed-as}
 use Rattle.lifecycle.specs.FdtCalls.{waiting, file-at, files, sends, used, refuses, new-slot, unlisted-slot, started-slot, ended-file, ended-slot, goes-back}
 use Rattle.lifecycle.specs.declared.filedesc.Time.{Time}
 use Rattle.lifecycle.specs.declared.filedesc.FileDesc.{FileDesc}
 use Rattle.lifecycle.specs.declared.slots.Slot.{Slot}
-use Rattle.lifecycle.specs.declared.slots.Place.{Place}
-use Rattle.lifecycle.specs.declared.slots.Place.the-variants.{At, Nothing}
+use Rattle.sizes.specs.Place.{place-said}
+use Rattle.sizes.specs.declared.place.Place.{Place}
+use Rattle.sizes.specs.declared.place.Place.the-variants.{At, Nothing}
 use Rattle.lifecycle.specs.declared.fdt.Fdt.{Fdt}
 use Rattle.lifecycle.specs.declared.fdt.Named.{Named}
 use Rattle.lifecycle.specs.declared.fdt.Named.the-variants as NamedV

@@ -9,11 +9,11 @@ use lib.Dec.{eqb}
 use borrow.Author.Tests.{eqb-true, eq-eqb, ne-eqb}
 use lib.ListN.{length, set, getD, length-set, List·getD-map}
 use lib.Seq.{getD-set-same}
-use Rattle.sizes.specs.Words.{if_then_else_, given, over, at, cut, place, shut, one-if, times, Hit}
+use Rattle.sizes.specs.Words.{if_then_else_, given, over, at, cut, place, shut, one-if, times}
 use Rattle.sizes.specs.Allocator as Alloc
 use Rattle.sizes.specs.declared.toiallocator.ToiAllocator.{ToiAllocator}
 use Rattle.sizes.proofs.Tests.{Tested, pass, fail, tested, and-left, none≢some}
-use Rattle.sizes.proofs.Lists.{Sought, hit, miss, sought, found-first, found-none, at-map, map-append, map-cut, has-none}
+use Rattle.sizes.proofs.Lists.{Hit, Sought, hit, miss, sought, found-first, found-none, at-map, map-append, map-cut, has-none}
 use Rattle.sizes.proofs.Tables.{map-in, find-any, inside, other, none-get}
 use Rattle.sizes.proofs.Collects.{adds, at-inside, collect-set, collect-at}
 use Rattle.sizes.proofs.AllocatorViews.{held-split, freed-view}
@@ -23,7 +23,7 @@ use Rattle.lifecycle.specs.FdtCalls.{file-at, waiting, files, sends, use
 use Rattle.lifecycle.specs.FdtCalls.{started-slot, ended-slot}
 use Rattle.lifecycle.proofs.FdtMeans.{Listed, Seen, Takes, nothing, takes, Ends, idle, back, gone, published-file}
 use Rattle.lifecycle.specs.declared.slots.Slot.{Slot}
-use Rattle.lifecycle.specs.declared.slots.Place.the-variants.{At}
+use Rattle.sizes.specs.declared.place.Place.the-variants.{At}
 use Rattle.lifecycle.specs.declared.fdt.Fdt.{Fdt}
 use Rattle.lifecycle.proofs.FdtFacts.{maybe-on, if-on, one-true, toi-in, toi-used, used-listed, used-sends, waits-not, waits-at, absent, room, number-held, waiting-shut, waiting-push}
 

@@ -22,7 +22,7 @@ use Rattle.lifecycle.specs.declared.parts.Part.{Part}
 use Rattle.lifecycle.specs.declared.filedesc.Time.{Time}
 use Rattle.lifecycle.specs.declared.filedesc.FileDesc.{FileDesc}
 use Rattle.lifecycle.specs.declared.slots.Slot.{Slot}
-use Rattle.lifecycle.specs.declared.slots.Place.the-variants.{At, Nothing}
+use Rattle.sizes.specs.declared.place.Place.the-variants.{At, Nothing}
 use Rattle.lifecycle.specs.declared.fdt.Fdt.{Fdt}
 use Rattle.lifecycle.specs.declared.fdt.Own.{Own}
 use Rattle.lifecycle.specs.declared.fdt.Own.the-variants as OwnV

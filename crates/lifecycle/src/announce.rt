@@ -12,6 +12,13 @@ use crate::filedesc::elapsed;
 use crate::parts::Part;
 use crate::parts::ends_past;
 use crate::parts::shares;
+use sizes::limits::LARGEST_FDT_ID;
+use sizes::limits::WAITING_FDTS;
+
+const LAST_WAITING: usize = WAITING_FDTS - 1;
+
+// How many ids there are.
+const FDT_IDS: u32 = LARGEST_FDT_ID + 1;
 
 // One FDT.
 #[repr(C)]
@@ -26,7 +33,7 @@ pub struct Instance {
 pub struct Announcer {
     pub fdtid: u32,
     pub last_publish: Time,
-    pub queue: [Instance; 4],
+    pub queue: [Instance; WAITING_FDTS],
     pub waiting: usize,
     pub has_current: bool,
     pub current: Instance,
@@ -90,37 +97,25 @@ pub fn will_expire(validity: u64, elapsed: u64) -> bool
 fn no_fdt() -> Instance
     ensures { λ r. ⌜ r ≡ no-instance ⌝ }
 {
-    let none = Time {
-        known: false,
-        at: 0,
-    };
     Instance {
         id: 0,
         part: Part { start: 0, size: 0 },
-        life: Life {
-            published: false,
-            transferring: false,
-            count: 0,
-            total: 0,
-            last_start: none,
-            last_end: none,
-            named_start: none,
-        },
+        life: Life::new(Time::none()),
     }
 }
 
 // The queue without its front: the others move up, and zeros come in at the end.
-fn moved_up(queue: [Instance; 4]) -> [Instance; 4]
+fn moved_up(queue: [Instance; WAITING_FDTS]) -> [Instance; WAITING_FDTS]
     ensures { λ r. ⌜ r ≡ shut no-instance queue 0 ⌝ }
 {
     let mut out = queue;
     let mut j: usize = 0;
-    while j < 3 {
+    while j < LAST_WAITING {
         let i = out[j + 1];
         out[j] = i;
         j += 1;
     }
-    out[3] = no_fdt();
+    out[LAST_WAITING] = no_fdt();
     out
 }
 
@@ -129,23 +124,9 @@ impl Instance {
     fn new(id: u32, part: Part) -> Instance
         ensures { λ r. ⌜ r ≡ first-instance id part ⌝ }
     {
-        let none = Time {
-            known: false,
-            at: 0,
-        };
-        Instance {
-            id,
-            part,
-            life: Life {
-                published: true,
-                transferring: false,
-                count: 0,
-                total: 0,
-                last_start: none,
-                last_end: none,
-                named_start: none,
-            },
-        }
+        let mut life = Life::new(Time::none());
+        life.published = true;
+        Instance { id, part, life }
     }
 
     // Its transfer starts.
@@ -173,11 +154,8 @@ impl Announcer {
         let none = no_fdt();
         Announcer {
             fdtid: first_id,
-            last_publish: Time {
-                known: false,
-                at: 0,
-            },
-            queue: [none; 4],
+            last_publish: Time::none(),
+            queue: [none; WAITING_FDTS],
             waiting: 0,
             has_current: false,
             current: none,
@@ -210,18 +188,18 @@ impl Announcer {
         queue[at] = Instance::new(self.fdtid, part);
         self.queue = queue;
         self.waiting = at + 1;
-        self.fdtid = (self.fdtid + 1) % 0x10_0000;
+        self.fdtid = (self.fdtid + 1) % FDT_IDS;
         self.last_publish.known = true;
         self.last_publish.at = now;
         self
     }
 
-    // The part waits under the current id; where 4 wait, nothing changes.
+    // The part waits under the current id; where the queue is full, nothing changes.
     pub fn published(self, now: u64, part: Part) -> Announcer
         requires { ⌜ FdtValid self ⌝ }
         ensures { λ r. ⌜ r ≡ published-of now part self ⌝ }
     {
-        if 4 <= self.waiting {
+        if WAITING_FDTS <= self.waiting {
             return self;
         }
         self.with_published(now, part)

@@ -5,9 +5,11 @@ ghost use Prim.Native.Nat.{_<_, _≤_};
 ghost use lib.Dec.{eqb};
 ghost use lib.ListN.{take};
 ghost use Rattle.sizes.specs.Words.{place, shut, within, Each};
+ghost use Rattle.sizes.specs.Limits.{object-slots};
+ghost use Rattle.sizes.specs.Place.{place-said};
 ghost use Rattle.lifecycle.specs.Setup.{sound-sizes, bad-blocks};
 ghost use Rattle.lifecycle.specs.FdtCalls.{own-of, bad-part-of, put-of, reserved-of, released-of, fresh-of, named-of, added-of, is-added-of, transfers-of, transfers-said, unlisted-of, freed-of, removed-of, triggered-of, taken-at, taken-of, back-of, let-go-of, done-of, completed-of, Valid};
-ghost use Rattle.lifecycle.specs.Slots.{slot-at, place-said, queue-startable};
+ghost use Rattle.lifecycle.specs.Slots.{slot-at, queue-startable};
 ghost use Rattle.lifecycle.specs.Announce.{waits-of};
 ghost use Rattle.lifecycle.specs.FdtCalls.{announced as announced-of, opening-fdt, publish-of, draft-said, real-draft, draft-test-of, next-fdt-of, fdt-done-of};
 use crate::announce::Announcer;
@@ -18,18 +20,25 @@ use crate::filedesc::Rule;
 use crate::filedesc::Time;
 use crate::parts::Part;
 use crate::parts::ends_past;
-use crate::slots::Place;
 use crate::slots::Slot;
 use crate::slots::any_shares;
 use crate::slots::free_slot;
 use crate::slots::listed_slot;
 use crate::slots::mark_published;
+use sizes::limits::LARGEST_BLOCK;
+use sizes::limits::LARGEST_SYMBOL;
+use sizes::limits::MOST_BLOCKS;
+use sizes::limits::OBJECT_SLOTS;
+use sizes::limits::WAITING_FDTS;
 use sizes::partition::Sizes;
 use sizes::partition::block_partitioning;
+use sizes::place::Place;
 use sizes::refusal::Refusal;
 use sizes::toiallocator::Given;
 use sizes::toiallocator::Known;
 use sizes::toiallocator::ToiAllocator;
+
+const LAST_SLOT: usize = OBJECT_SLOTS - 1;
 
 // What the set-up names once: the stores' lengths, E and B, and the FDTs' validity and carousel.
 #[repr(C)]
@@ -48,8 +57,8 @@ pub struct Fdt {
     pub settings: Settings,
     pub complete: bool,
     pub tois: ToiAllocator,
-    pub slots: [Slot; 32],
-    pub queue: [usize; 32],
+    pub slots: [Slot; OBJECT_SLOTS],
+    pub queue: [usize; OBJECT_SLOTS],
     pub queued: usize,
     pub announcer: Announcer,
 }
@@ -162,7 +171,7 @@ pub fn is_within(low: u64, high: u64, n: u64) -> bool
 pub fn are_sound_sizes(z: Sizes) -> bool
     ensures { λ r. ⌜ r ≡ sound-sizes z ⌝ }
 {
-    is_within(1, 65535, z.e) && is_within(1, 65535, z.b)
+    is_within(1, LARGEST_SYMBOL, z.e) && is_within(1, LARGEST_BLOCK, z.b)
 }
 
 // Are E, B or the block count of l bytes out of range?
@@ -172,7 +181,7 @@ pub fn are_bad_blocks(z: Sizes, l: u64) -> bool
     if !are_sound_sizes(z) {
         return true;
     }
-    65535 < block_partitioning(z.b, l, z.e).blocks
+    MOST_BLOCKS < block_partitioning(z.b, l, z.e).blocks
 }
 
 // An object's own E and B, or the set-up's.
@@ -187,13 +196,13 @@ fn own_sizes(own: Own, z: Sizes) -> Sizes
 
 // The place in the queue of the first object that a session of this priority may start now.
 fn first_startable(
-    slots: [Slot; 32],
-    queue: [usize; 32],
+    slots: [Slot; OBJECT_SLOTS],
+    queue: [usize; OBJECT_SLOTS],
     queued: usize,
     priority: u32,
     now: u64,
 ) -> Place
-    requires { ⌜ (queued ≤ 32) × Each (λ k. k < 32) (take queued queue) ⌝ }
+    requires { ⌜ (queued ≤ object-slots) × Each (λ k. k < object-slots) (take queued queue) ⌝ }
     ensures { λ r. ⌜ place-said r ≡ place (queue-startable slots priority now) (take queued queue) ⌝ }
 {
     let mut i: usize = 0;
@@ -209,8 +218,8 @@ fn first_startable(
 }
 
 // The place of a slot in the queue.
-fn queue_place(queue: [usize; 32], queued: usize, slot: usize) -> Place
-    requires { ⌜ queued ≤ 32 ⌝ }
+fn queue_place(queue: [usize; OBJECT_SLOTS], queued: usize, slot: usize) -> Place
+    requires { ⌜ queued ≤ object-slots ⌝ }
     ensures { λ r. ⌜ place-said r ≡ place (λ k. eqb k slot) (take queued queue) ⌝ }
 {
     let mut i: usize = 0;
@@ -224,18 +233,18 @@ fn queue_place(queue: [usize; 32], queued: usize, slot: usize) -> Place
 }
 
 // The queue without the entry at `at`: the later ones move up.
-fn queue_closed(queue: [usize; 32], at: usize) -> [usize; 32]
-    requires { ⌜ at < 32 ⌝ }
+fn queue_closed(queue: [usize; OBJECT_SLOTS], at: usize) -> [usize; OBJECT_SLOTS]
+    requires { ⌜ at < object-slots ⌝ }
     ensures { λ r. ⌜ r ≡ shut 0 queue at ⌝ }
 {
     let mut out = queue;
     let mut j = at;
-    while j < 31 {
+    while j < LAST_SLOT {
         let k = out[j + 1];
         out[j] = k;
         j += 1;
     }
-    out[31] = 0;
+    out[LAST_SLOT] = 0;
     out
 }
 
@@ -277,7 +286,7 @@ impl Fdt {
 
     // A new object in slot k, at the queue's end.
     fn put(mut self, k: usize, toi: u64, q: Request, z: Sizes) -> Fdt
-        requires { ⌜ (k < 32) × (self .queued < 32) ⌝ }
+        requires { ⌜ (k < object-slots) × (self .queued < object-slots) ⌝ }
         ensures { λ r. ⌜ r ≡ put-of self k toi q z ⌝ }
     {
         let file = FileDesc::new(toi, q.priority, q.part, z, q.rule, q.start);
@@ -408,7 +417,7 @@ impl Fdt {
 
     // The list lets go of slot k, which a session sends.
     fn unlisted(mut self, k: usize) -> Fdt
-        requires { ⌜ Valid self × (k < 32) × (0 < slot-at (self .slots) k .holders) ⌝ }
+        requires { ⌜ Valid self × (k < object-slots) × (0 < slot-at (self .slots) k .holders) ⌝ }
         ensures { λ r. ⌜ r ≡ unlisted-of self k ⌝ }
     {
         let mut slots = self.slots;
@@ -420,7 +429,7 @@ impl Fdt {
 
     // Slot k, which waits at place n of the queue, is free.
     fn freed(mut self, toi: u64, k: usize, n: usize) -> Fdt
-        requires { ⌜ Valid self × (k < 32) × (n < self .queued) ⌝ }
+        requires { ⌜ Valid self × (k < object-slots) × (n < self .queued) ⌝ }
         ensures { λ r. ⌜ r ≡ freed-of self toi k n ⌝ }
     {
         let mut slots = self.slots;
@@ -506,7 +515,7 @@ impl Fdt {
 
     // Slot k, at place n of the queue, is taken by a session.
     fn taken(mut self, now: u64, n: usize, k: usize) -> Fdt
-        requires { ⌜ Valid self × (k < 32) × (n < self .queued) ⌝ }
+        requires { ⌜ Valid self × (k < object-slots) × (n < self .queued) ⌝ }
         ensures { λ r. ⌜ r ≡ taken-at now self n k ⌝ }
     {
         let mut slots = self.slots;
@@ -545,7 +554,7 @@ impl Fdt {
 
     // Slot k, whose transfer has ended, goes to the queue's end.
     fn back(mut self, now: u64, k: usize) -> Fdt
-        requires { ⌜ Valid self × (k < 32) × (self .queued < 32) × (0 < slot-at (self .slots) k .holders) ⌝ }
+        requires { ⌜ Valid self × (k < object-slots) × (self .queued < object-slots) × (0 < slot-at (self .slots) k .holders) ⌝ }
         ensures { λ r. ⌜ r ≡ back-of now self k ⌝ }
     {
         let mut slots = self.slots;
@@ -564,7 +573,7 @@ impl Fdt {
 
     // Slot k is free, and its number too.
     fn let_go(mut self, k: usize) -> Fdt
-        requires { ⌜ Valid self × (k < 32) ⌝ }
+        requires { ⌜ Valid self × (k < object-slots) ⌝ }
         ensures { λ r. ⌜ r ≡ let-go-of self k ⌝ }
     {
         let mut slots = self.slots;
@@ -580,7 +589,7 @@ impl Fdt {
         requires { ⌜ Valid self ⌝ }
         ensures { λ r. ⌜ r ≡ done-of now k self ⌝ }
     {
-        if 32 <= k {
+        if OBJECT_SLOTS <= k {
             return self;
         }
         let slots = self.slots;
@@ -607,8 +616,8 @@ impl Fdt {
             settings,
             complete: false,
             tois,
-            slots: [none; 32],
-            queue: [0; 32],
+            slots: [none; OBJECT_SLOTS],
+            queue: [0; OBJECT_SLOTS],
             queued: 0,
             announcer,
         }
@@ -648,7 +657,7 @@ impl Fdt {
                 fdt: self,
             };
         }
-        if 4 <= self.announcer.waiting {
+        if WAITING_FDTS <= self.announcer.waiting {
             return Published {
                 answer: Publication::Refused(Refusal::Full),
                 fdt: self,

@@ -4,9 +4,12 @@ ghost use Prim.Native.Nat.{_+_, _-_, _<_, min, max};
 ghost use lib.Dec.{ltb};
 ghost use mathlib.Core.Bool.{false};
 ghost use Rattle.sizes.specs.Words.{maybe};
+ghost use Rattle.sizes.specs.Limits.{largest-count, largest-total};
 ghost use Rattle.lifecycle.specs.Lifecycle.{expired, is-last, may-start, may-stop, too-early, round-due};
-ghost use Rattle.lifecycle.specs.FileDesc.{time-of, plan-of, life-of, pace-said, with-life, started-life, done-life, published-life, reset-life, rule-named, with-carousel, with-target, pace-at, ticked-of, file-new, startable-file};
+ghost use Rattle.lifecycle.specs.FileDesc.{time-of, plan-of, life-of, pace-said, no-time, no-pace, unborn-of, with-life, started-life, done-life, published-life, reset-life, rule-named, with-carousel, with-target, pace-at, ticked-of, file-new, startable-file};
 use crate::parts::Part;
+use sizes::limits::LARGEST_COUNT;
+use sizes::limits::LARGEST_TOTAL;
 use sizes::partition::Sizes;
 use sizes::partition::div_ceil;
 
@@ -73,6 +76,18 @@ pub struct Pace {
     pub paced: bool,
     pub due: u64,
     pub tick: u64,
+}
+
+impl Time {
+    // No time.
+    pub fn none() -> Time
+        ensures { λ r. ⌜ r ≡ no-time ⌝ }
+    {
+        Time {
+            known: false,
+            at: 0,
+        }
+    }
 }
 
 // How much time has passed since; a clock behind counts as none.
@@ -222,11 +237,7 @@ impl Rule {
         ensures { λ r. ⌜ r ≡ pace-at self now l e ⌝ }
     {
         if !self.paced {
-            return Pace {
-                paced: false,
-                due: 0,
-                tick: 0,
-            };
+            return Pace::none();
         }
         let packets = at_least_one(div_ceil(l, e));
         if self.by_time {
@@ -251,6 +262,17 @@ fn at_least_one(n: u64) -> u64
 }
 
 impl Pace {
+    // No pace: each packet is due at once.
+    pub fn none() -> Pace
+        ensures { λ r. ⌜ r ≡ no-pace ⌝ }
+    {
+        Pace {
+            paced: false,
+            due: 0,
+            tick: 0,
+        }
+    }
+
     // A packet moves the due time by one tick, unless the sum passes 64 bits.
     pub fn ticked(self) -> Pace
         ensures { λ r. ⌜ r ≡ ticked-of self ⌝ }
@@ -290,25 +312,13 @@ impl FileDesc {
     ) -> FileDesc
         ensures { λ r. ⌜ r ≡ file-new toi priority part sizes rule start ⌝ }
     {
-        let none = Time {
-            known: false,
-            at: 0,
-        };
         FileDesc {
             toi,
             priority,
             part,
             sizes,
             rule,
-            life: Life {
-                published: false,
-                transferring: false,
-                count: 0,
-                total: 0,
-                last_start: none,
-                last_end: none,
-                named_start: start,
-            },
+            life: Life::new(start),
         }
     }
 
@@ -386,6 +396,22 @@ impl FileDesc {
 }
 
 impl Life {
+    // Nothing has happened yet.
+    pub fn new(named_start: Time) -> Life
+        ensures { λ r. ⌜ r ≡ unborn-of «named_start» ⌝ }
+    {
+        let none = Time::none();
+        Life {
+            published: false,
+            transferring: false,
+            count: 0,
+            total: 0,
+            last_start: none,
+            last_end: none,
+            named_start,
+        }
+    }
+
     // A transfer starts.
     pub fn started(mut self, r: Rule, now: u64) -> Life
         ensures { λ s. ⌜ s ≡ started-life r now self ⌝ }
@@ -418,10 +444,7 @@ impl Life {
     fn reset(mut self, start: Time) -> Life
         ensures { λ s. ⌜ s ≡ reset-life start self ⌝ }
     {
-        let none = Time {
-            known: false,
-            at: 0,
-        };
+        let none = Time::none();
         self.last_start = none;
         self.last_end = none;
         if start.known {
@@ -431,16 +454,16 @@ impl Life {
     }
 }
 
-// One more, up to the largest number of 32 bits.
+// One more, up to the largest count.
 fn up32(n: u32) -> u32
-    ensures { λ r. ⌜ r ≡ min (n + 1) 4294967295 ⌝ }
+    ensures { λ r. ⌜ r ≡ min (n + 1) largest-count ⌝ }
 {
-    if n < 0xFFFF_FFFF { n + 1 } else { n }
+    if n < LARGEST_COUNT { n + 1 } else { n }
 }
 
-// One more, up to the largest number of 64 bits.
+// One more, up to the largest total.
 fn up64(n: u64) -> u64
-    ensures { λ r. ⌜ r ≡ min (n + 1) 18446744073709551615 ⌝ }
+    ensures { λ r. ⌜ r ≡ min (n + 1) largest-total ⌝ }
 {
-    if n < 0xFFFF_FFFF_FFFF_FFFF { n + 1 } else { n }
+    if n < LARGEST_TOTAL { n + 1 } else { n }
 }

@@ -21,8 +21,8 @@ use Rattle.lifecycle.specs.Setup.{Setup}
 use Rattle.lifecycle.specs.Slots.{no-slot, slot-at}
 use Rattle.lifecycle.specs.Announce.{state-of, waits-of}
 use Rattle.lifecycle.specs.FdtCalls.{sends, taken-of}
-use Rattle.lifecycle.specs.declared.slots.Place.{Place}
-use Rattle.lifecycle.specs.declared.slots.Place.the-variants as PlaceV
+use Rattle.sizes.specs.declared.place.Place.{Place}
+use Rattle.sizes.specs.declared.place.Place.the-variants as PlaceV
 use Rattle.lifecycle.specs.declared.fdt.Fdt.{Fdt}
 use Rattle.lifecycle.specs.declared.announce.Announcer.{Announcer}
 use Rattle.lifecycle.proofs.AnnounceLaws.{waits-said}

@@ -7,7 +7,8 @@ use Prim.Native.Nat.{ℕ, _+_, _≤_}
 use native.Mathlib.Omega.{arith}
 use lib.Dec.{eqb}
 use borrow.Author.Tests.{eqb-true, eq-eqb, ne-eqb}
-use Rattle.sizes.specs.Words.{if_then_else_, over, cut, place, drop-first, one-if, times, Counts, Hit}
+use Rattle.sizes.specs.Words.{if_then_else_, over, cut, place, drop-first, one-if, times, Counts}
+use Rattle.sizes.proofs.Lists.{Hit}
 use Rattle.sizes.specs.Limits.{largest-window}
 use Rattle.sizes.proofs.Tests.{Tested, pass, fail, tested, and-left}
 use Rattle.sizes.proofs.Lists.{found-none}
@@ -19,7 +20,7 @@ use Rattle.lifecycle.specs.FdtCalls.{file-at, files, sends, taken-of}
 use Rattle.lifecycle.specs.FdtCalls.{started-slot}
 use Rattle.lifecycle.proofs.FdtMeans.{Waits, Seen, Takes, nothing, takes}
 use Rattle.lifecycle.specs.declared.slots.Slot.{Slot}
-use Rattle.lifecycle.specs.declared.slots.Place.{Place}
+use Rattle.sizes.specs.declared.place.Place.{Place}
 use Rattle.lifecycle.specs.declared.fdt.Fdt.{Fdt}
 use Rattle.lifecycle.specs.declared.fdt.Taken.{Taken}
 use Rattle.lifecycle.proofs.FdtFacts.{used-sends}

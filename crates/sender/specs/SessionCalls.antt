@@ -17,8 +17,8 @@ use Rattle.lifecycle.specs.FdtCalls.{used, taken-of, done-of}
 use Rattle.lifecycle.specs.FdtCalls.{Valid as ListValid}
 use Rattle.lifecycle.specs.declared.filedesc.FileDesc.{FileDesc}
 use Rattle.lifecycle.specs.declared.slots.Slot.{Slot}
-use Rattle.lifecycle.specs.declared.slots.Place.{Place}
-use Rattle.lifecycle.specs.declared.slots.Place.the-variants as PlaceV
+use Rattle.sizes.specs.declared.place.Place.{Place}
+use Rattle.sizes.specs.declared.place.Place.the-variants as PlaceV
 use Rattle.lifecycle.specs.declared.fdt.Fdt.{Fdt}
 use Rattle.definition.specs.Session as Def
 use Rattle.sender.specs.EncoderCalls.{no-open, encoder-of, new-of, read-of}

@@ -4,15 +4,19 @@ ghost use mathlib.Core.Bool.{true, false};
 ghost use Prim.Native.Nat.{_<_, _≤_};
 ghost use lib.ListN.{take};
 ghost use Rattle.sizes.specs.Words.{all, shut};
+ghost use Rattle.sizes.specs.Limits.{largest-block, largest-window};
 ghost use Rattle.sender.specs.EncoderCalls.{Valid, Inside, Reads, no-open, is-empty, open-at, new-of, has-room, one-opened, filled-of, place-of, stuck, without-of, ready-of, offset-of, payload-of, last-of, closes-of, shown-of, visit-of, midway, glance-of, moved-of, emptied-of};
 use crate::block::Open;
 use crate::block::nb_source_symbols;
 use crate::block::no_open;
 use lifecycle::parts::Part;
+use sizes::limits::LARGEST_WINDOW;
 use sizes::numbers::Esi;
 use sizes::numbers::Sbn;
 use sizes::partition::Partition;
 use sizes::partition::Sizes;
+
+const LAST_PLACE: usize = LARGEST_WINDOW - 1;
 
 // What is sent: its part of the store, and how it is cut.
 #[repr(C)]
@@ -33,7 +37,7 @@ pub struct BlockEncoder {
     pub next: Sbn,
     pub filled: usize,
     pub index: usize,
-    pub window: [Open; 16],
+    pub window: [Open; LARGEST_WINDOW],
 }
 
 // What a packet says of its symbol; the payload is a part of the store.
@@ -72,24 +76,24 @@ pub struct Read {
 }
 
 // The window without the block at `at`: the later ones move up, and zeros come in at the end.
-fn removed(window: [Open; 16], at: usize) -> [Open; 16]
-    requires { ⌜ at < 16 ⌝ }
+fn removed(window: [Open; LARGEST_WINDOW], at: usize) -> [Open; LARGEST_WINDOW]
+    requires { ⌜ at < largest-window ⌝ }
     ensures { λ r. ⌜ r ≡ shut no-open window at ⌝ }
 {
     let mut out = window;
     let mut j = at;
-    while j < 15 {
+    while j < LAST_PLACE {
         let o = out[j + 1];
         out[j] = o;
         j += 1;
     }
-    out[15] = no_open();
+    out[LAST_PLACE] = no_open();
     out
 }
 
 // Has none of the first n blocks a symbol left?
-fn all_empty(p: Partition, window: [Open; 16], n: usize) -> bool
-    requires { ⌜ n ≤ 16 ⌝ }
+fn all_empty(p: Partition, window: [Open; LARGEST_WINDOW], n: usize) -> bool
+    requires { ⌜ n ≤ largest-window ⌝ }
     ensures { λ r. ⌜ r ≡ all (is-empty p) (take n window) ⌝ }
 {
     let mut i: usize = 0;
@@ -123,7 +127,7 @@ impl BlockEncoder {
             next: Sbn(0),
             filled: 0,
             index: 0,
-            window: [none; 16],
+            window: [none; LARGEST_WINDOW],
         }
     }
 
@@ -267,7 +271,7 @@ impl BlockEncoder {
 
     // Does a symbol of the block at `at` close the transfer? Forced, or it is the last of a transfer that closes.
     fn closes(self, at: usize, o: Open, force: bool) -> bool
-        requires { ⌜ Valid self × (at < self .filled) × (o .esi .0 ≤ 65535) ⌝ }
+        requires { ⌜ Valid self × (at < self .filled) × (o .esi .0 ≤ largest-block) ⌝ }
         ensures { λ r. ⌜ r ≡ closes-of force self at o ⌝ }
     {
         if force {
@@ -362,7 +366,7 @@ impl BlockEncoder {
 
     // A symbol was read: its block is one symbol further, and the index moves on.
     fn moved_on(self, v: Visit) -> BlockEncoder
-        requires { ⌜ Valid self × (v .place < self .filled) × (v .symbol .esi .0 < 65535) ⌝ }
+        requires { ⌜ Valid self × (v .place < self .filled) × (v .symbol .esi .0 < largest-block) ⌝ }
         ensures { λ r. ⌜ r ≡ moved-of self v ⌝ }
     {
         let i = v.place;

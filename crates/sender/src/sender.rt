@@ -3,7 +3,7 @@ ghost use mathlib.Core.Path.{_≡_};
 ghost use Prim.Native.Nat.{_<_};
 ghost use lib.ListN.{take, getD};
 ghost use Rattle.sizes.specs.Words.{any, given};
-ghost use Rattle.sizes.specs.Limits.{object-slots};
+ghost use Rattle.sizes.specs.Limits.{most-sessions, object-slots};
 ghost use Rattle.lifecycle.specs.Slots.{slot-at};
 ghost use Rattle.lifecycle.specs.FdtCalls.{draft-said};
 ghost use Rattle.sender.specs.SessionCalls.{idle-of};
@@ -27,6 +27,7 @@ use lifecycle::filedesc::Rule;
 use lifecycle::filedesc::Target;
 use lifecycle::filedesc::Time;
 use lifecycle::parts::Part;
+use sizes::limits::MOST_SESSIONS;
 use sizes::refusal::Refusal;
 use sizes::toiallocator::Given;
 use sizes::toiallocator::Known;
@@ -37,7 +38,7 @@ pub struct Sender {
     pub fdt: Fdt,
     pub window: usize,
     pub count: usize,
-    pub sessions: [SenderSession; 4],
+    pub sessions: [SenderSession; MOST_SESSIONS],
     pub fdt_session: FdtSession,
 }
 
@@ -211,7 +212,7 @@ impl Sender {
 
     // The sender with x for file session k.
     fn with_session(mut self, k: usize, x: SenderSession) -> Sender
-        requires { ⌜ k < 4 ⌝ }
+        requires { ⌜ k < most-sessions ⌝ }
         ensures { λ r. ⌜ r ≡ with-session k x self ⌝ }
     {
         let mut sessions = self.sessions;

@@ -1,7 +1,7 @@
 // A file session: it has one object in hand at a time and sends its packets (src/sender/sendersession.rs).
 ghost use mathlib.Core.Path.{_≡_};
 ghost use Prim.Native.Nat.{_<_, _≤_};
-ghost use Rattle.sizes.specs.Limits.{object-slots};
+ghost use Rattle.sizes.specs.Limits.{object-slots, largest-window};
 ghost use Rattle.lifecycle.specs.Slots.{slot-at};
 ghost use Rattle.sender.specs.EncoderCalls.{Valid as EncoderValid};
 ghost use Rattle.sender.specs.SessionCalls.{Ready, Holds, Runs, no-encoder, idle-of, begun-of, forced-slot, served-of, attended-of, taken-on-of, ran-of};
@@ -14,10 +14,12 @@ use lifecycle::fdt::Fdt;
 use lifecycle::filedesc::FileDesc;
 use lifecycle::filedesc::Pace;
 use lifecycle::parts::Part;
-use lifecycle::slots::Place;
+use lifecycle::slots::Slot;
+use sizes::limits::LARGEST_WINDOW;
 use sizes::numbers::Sbn;
 use sizes::partition::Partition;
 use sizes::partition::Sizes;
+use sizes::place::Place;
 
 // `slot` is the object in hand while `busy`; the due time and the tick are its transfer's.
 #[repr(C)]
@@ -70,17 +72,14 @@ pub fn no_encoder() -> BlockEncoder
         next: Sbn(0),
         filled: 0,
         index: 0,
-        window: [none; 16],
+        window: [none; LARGEST_WINDOW],
     }
 }
 
-// Is the transfer of the object in slot k to be forced to its end: it may be stopped, and is not listed?
-fn is_forced(fdt: Fdt, k: usize) -> bool
-    requires { ⌜ k < object-slots ⌝ }
-    ensures { λ r. ⌜ r ≡ forced-slot (slot-at (fdt .slots) k) ⌝ }
+// Is the transfer of the object in a slot to be forced to its end: it may be stopped, and is not listed?
+pub fn is_forced(v: Slot) -> bool
+    ensures { λ r. ⌜ r ≡ forced-slot v ⌝ }
 {
-    let slots = fdt.slots;
-    let v = slots[k];
     if v.listed {
         return false;
     }
@@ -88,14 +87,13 @@ fn is_forced(fdt: Fdt, k: usize) -> bool
     file.can_transfer_be_stopped()
 }
 
-// The object in slot k.
-fn file_at(fdt: Fdt, k: usize) -> FileDesc
+// Slot k of the list.
+fn slot_at(fdt: Fdt, k: usize) -> Slot
     requires { ⌜ k < object-slots ⌝ }
-    ensures { λ r. ⌜ r ≡ slot-at (fdt .slots) k .file ⌝ }
+    ensures { λ r. ⌜ r ≡ slot-at (fdt .slots) k ⌝ }
 {
     let slots = fdt.slots;
-    let v = slots[k];
-    v.file
+    slots[k]
 }
 
 impl SenderSession {
@@ -107,11 +105,7 @@ impl SenderSession {
             priority,
             busy: false,
             slot: 0,
-            pace: Pace {
-                paced: false,
-                due: 0,
-                tick: 0,
-            },
+            pace: Pace::none(),
             encoder: no_encoder(),
         }
     }
@@ -174,7 +168,7 @@ impl SenderSession {
         ensures { λ r. ⌜ r ≡ attended-of now fdt self ⌝ }
     {
         let k = self.slot;
-        let r = self.serve(is_forced(fdt, k), fdt.need_transfer_fdt(), now);
+        let r = self.serve(is_forced(slot_at(fdt, k)), fdt.need_transfer_fdt(), now);
         let answer = r.answer;
         if let Served::Over = answer {
             fdt = fdt.transfer_done(k, now);
@@ -195,7 +189,7 @@ impl SenderSession {
 
     // With nothing in hand: the first in the queue that may start is taken.
     fn take_on(mut self, mut fdt: Fdt, width: usize, now: u64) -> Ran
-        requires { ⌜ Holds fdt × (width ≤ 16) ⌝ }
+        requires { ⌜ Holds fdt × (width ≤ largest-window) ⌝ }
         ensures { λ r. ⌜ r ≡ taken-on-of width now fdt self ⌝ }
     {
         let t = fdt.get_next_file_transfer(self.priority, now);
@@ -208,7 +202,7 @@ impl SenderSession {
                 session: self,
             };
         };
-        self = SenderSession::begin(self.priority, k, file_at(fdt, k), width, now);
+        self = SenderSession::begin(self.priority, k, slot_at(fdt, k).file, width, now);
         self.attend(fdt, now)
     }
 

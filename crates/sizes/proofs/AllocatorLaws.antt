@@ -11,7 +11,7 @@ use lib.Dec.{eqb, ltb, lit≤}
 use lib.ListN.{length, set, getD, replicate, length-set, length-replicate, length-append, length-map}
 use lib.Seq.{getD-set-other, take-suc-set, take-set-lt, length-take-le}
 use borrow.Author.Tests.{eqb-true, ltb-true, lt-ltb, le-ltb}
-use Rattle.sizes.specs.Words.{if_then_else_, maybe, over, given, cut, place, collect, Each, has, one-if, times, Hit}
+use Rattle.sizes.specs.Words.{if_then_else_, maybe, over, given, cut, place, collect, Each, has, one-if, times}
 use Rattle.sizes.specs.Limits.{toi-entries}
 use Rattle.sizes.specs.Toi.{skip-zero, cut-to, first-toi, after, free-from, next-toi, Toi}
 use Rattle.sizes.specs.Allocator.{bits, Width, noted, held, loose-in, loose, no-entry, entry-is, opening, noting, moved-on, allocated-of, bound-at, Fresh, without, unchanged, changed, claimed-of, dropped-of, Valid, Searchable, Opened, Gives, Becomes}
@@ -23,7 +23,7 @@ use Rattle.sizes.specs.declared.toiallocator.Given.{Given}
 use Rattle.sizes.specs.declared.toiallocator.Allocated.{Allocated}
 use Rattle.sizes.specs.declared.toiallocator.Changed.{Changed}
 use Rattle.sizes.proofs.Tests.{Tested, pass, fail, tested, and-left, none≢some}
-use Rattle.sizes.proofs.Lists.{Sought, hit, miss, sought, at-take, each-append, each-cut, map-append, map-cut, map-set-same, times-append, times-cut, has-none, has-cut}
+use Rattle.sizes.proofs.Lists.{Hit, Sought, hit, miss, sought, at-take, each-append, each-cut, map-append, map-cut, map-set-same, times-append, times-cut, has-none, has-cut}
 use Rattle.sizes.proofs.Arrays.{getD-shut, take-shut, length-shut}
 use Rattle.sizes.proofs.ToiLaws.{first-range, next-range, next-free, next-first}
 
@@ -76,9 +76,9 @@ unfolding opening
 valid-opening w n =
     record {
       wide = (w, refl);
-      sized = length-replicate 64 no-entry;
+      sized = length-replicate toi-entries no-entry;
       room = omega arith;
-      clear = λ i h. blank 64 i;
+      clear = λ i h. blank toi-entries i;
       once = λ m. omega arith;
       ranged = tt;
       next-ranged = first-range (bits w) n (width-16 (bits w) (w, refl));

@@ -9,13 +9,19 @@ use lib.Dec.{eqb}
 use borrow.Author.Tests.{eqb-true, not-true, lt-ltb, le-ltb}
 use Rattle.sizes.specs.Words.{if_then_else_, maybe, given, keep, has, at, place, collect, one-if, times}
 use Rattle.sizes.specs.Limits.{toi-entries}
-use Rattle.sizes.specs.Allocator.{noted, held, loose-in, bound-in, loose, bound, entry-is, opening, noting, moved-on, allocated-of, bound-at, without, unchanged, changed, claimed-of, dropped-of, Freed, Valid}
+use Rattle.sizes.specs.Allocator.{noted, held, loose-in, bound-in, loose, bound, entry-is, opening, noting, moved-on, allocated-of, bound-at, without, unchanged, changed, claimed-of, dropped-of, Valid}
 use Rattle.sizes.specs.declared.toiallocator.Entry.{Entry}
 use Rattle.sizes.specs.declared.toiallocator.ToiAllocator.{ToiAllocator}
 use Rattle.sizes.proofs.Tests.{and-left, and-right}
 use Rattle.sizes.proofs.Lists.{Sought, hit, miss, sought, has-none}
 use Rattle.sizes.proofs.Collects.{keep-absent, adds, collect-append, collect-skip, collect-unset, collect-cons, collect-cut, collect-set, collect-keep}
 use Rattle.sizes.proofs.AllocatorLaws.{noted-noting, noted-bound, noted-without, loose-found}
+
+-- an object's number is gone
+pub record Freed (t : ℕ) (a b : ToiAllocator) : Type 0 where
+  pub next-same : b .next ≡ a .next
+  pub loose-same : loose b ≡ loose a
+  pub one-less : (n : ℕ) → times n (bound b) + one-if (eqb t n) ≡ times n (bound a)
 
 -- a number that is held is loose or an object's
 split-in : (n : ℕ) (l : List Entry) → times n (map (λ (e : Entry). e .toi) l) ≡ times n (collect loose-in l) + times n (collect bound-in l)

@@ -6,7 +6,7 @@ use mathlib.Core.List.{List, [], _∷_, _++_, map}
 use Prim.Native.Nat.{ℕ, _+_, _-_, _≤_}
 use lib.Dec.{eqb, ltb}
 use lib.ListN.{length, getD, take, set, replicate}
-use Rattle.sizes.specs.Words.{if_then_else_, maybe, has, place, shut, collect, one-if, times, Each}
+use Rattle.sizes.specs.Words.{if_then_else_, maybe, has, place, shut, collect, times, Each}
 use Rattle.sizes.specs.Limits.{toi-entries}
 use Rattle.sizes.specs.declared.refusal.Refusal.{Refusal}
 use Rattle.sizes.specs.declared.refusal.Refusal.the-variants as Because
@@ -19,8 +19,6 @@ use Rattle.sizes.specs.declared.toiallocator.Given.{Given}
 use Rattle.sizes.specs.declared.toiallocator.Given.the-variants.{Number, Full}
 use Rattle.sizes.specs.declared.toiallocator.Known.{Known}
 use Rattle.sizes.specs.declared.toiallocator.Known.the-variants.{Done, Unknown}
-use Rattle.sizes.specs.declared.toiallocator.Place.{Place}
-use Rattle.sizes.specs.declared.toiallocator.Place.the-variants.{At, Nothing}
 use Rattle.sizes.specs.declared.toiallocator.Allocated.{Allocated}
 use Rattle.sizes.specs.declared.toiallocator.Changed.{Changed}
 
@@ -73,11 +71,6 @@ loose a = collect loose-in (noted a)
 
 abbrev pub bound : ToiAllocator → List ℕ
 bound a = collect bound-in (noted a)
-
--- what a search says
-abbrev pub place-said : Place → Option ℕ
-place-said (At i) = some i
-place-said Nothing = none
 
 -- is it the entry of a loose reservation (or of an object) with this number
 unfoldable pub entry-is : ℕ → Bool → Entry → Bool
@@ -135,12 +128,6 @@ pub record Fresh (flag : Bool) (a : ToiAllocator) (r : Allocated) : Type 0 where
   pub unheld : has (a .next) (held a) ≡ false
   pub noted-last : noted (r .allocator) ≡ noted a ++ (record { toi = a .next; loose = flag } ∷ [])
   pub next : FirstFree (a .width) (held (r .allocator)) (a .next) (r .allocator .next)
-
--- an object's number is gone
-pub record Freed (t : ℕ) (a b : ToiAllocator) : Type 0 where
-  pub next-same : b .next ≡ a .next
-  pub loose-same : loose b ≡ loose a
-  pub one-less : (n : ℕ) → times n (bound b) + one-if (eqb t n) ≡ times n (bound a)
 
 -- what new and every call give back, and the only premise of a call
 pub record Valid (a : ToiAllocator) : Type 0 where

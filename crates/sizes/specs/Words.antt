@@ -121,14 +121,6 @@ module _ {A : Type 0} where
   abbrev pub Counts : A → (A → Bool) → List A → List ℕ → Type 0
   Counts z p t l = (k : ℕ) → times k l ≡ one-if (p (getD t k z))
 
--- a search finds a, at place n
-pub record Hit {A : Type 0} (ok : A → Bool) (l : List A) (n : ℕ) (a : A) : Type 0 where
-  pub found : place ok l ≡ some n
-  pub stands : at l n ≡ some a
-  pub passes : ok a ≡ true
-  pub first : find ok l ≡ some a
-  pub rest : drop-first ok l ≡ cut l n
-
 -- f 0 + f 1 + .. + f (n - 1)
 abbrev pub sum-below : ℕ → (ℕ → ℕ) → ℕ
 sum-below zero f = 0

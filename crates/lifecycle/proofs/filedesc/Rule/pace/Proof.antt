@@ -5,9 +5,12 @@ use Rattle.lifecycle.specs.FileDesc.{pace-at}
 use Rattle.lifecycle.proofs.filedesc.Rule.pace.Statement.{statement}
 use Rattle.lifecycle.proofs.filedesc.Rule.pace.Tie as tie
 
+none-requires : tie.Need-none-requires
+none-requires c κs = search needs
+
 returns : tie.Need-returns
 unfolding pace-at
-returns c = rw (not-true (c .before .before .args .self .paced) (c .if1 .taken))
+returns c = rw (c .none .ensures, not-true (c .before .before .before .args .self .paced) (c .before .if1 .taken))
 
 div-ceil-requires : tie.Need-div-ceil-requires
 div-ceil-requires c κs = search needs
@@ -36,6 +39,7 @@ pub pace-spec : {M : Type 1} → statement M
 pace-spec =
     tie.close
     (tie.spec
+    none-requires
     returns
     div-ceil-requires
     at-least-one-requires

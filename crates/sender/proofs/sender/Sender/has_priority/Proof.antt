@@ -1,5 +1,6 @@
 use lib.ListN.{length, take, drop}
 use Rattle.sizes.specs.Words.{any}
+use Rattle.sizes.specs.Limits.{most-sessions}
 use Rattle.sizes.proofs.Arrays.{any-hit, any-miss, any-end}
 use Rattle.sender.specs.SenderCalls.{has-priority}
 use mathlib.Core.Path.{_≡_, refl, sym, _∙_}
@@ -11,7 +12,7 @@ use Rattle.sender.proofs.sender.Sender.has_priority.Statement.{statemen
 use Rattle.sender.proofs.sender.Sender.has_priority.Tie as tie
 
 abbrev Inv-loop : tie.InvT-loop
-Inv-loop priority n sessions i₀ i = (long : n ≤ length sessions) × (i ≤ n) × (n ≤ 4) × (any (has-priority priority) (drop i (take n sessions)) ≡ any (has-priority priority) (take n sessions))
+Inv-loop priority n sessions i₀ i = (long : n ≤ length sessions) × (i ≤ n) × (n ≤ most-sessions) × (any (has-priority priority) (drop i (take n sessions)) ≡ any (has-priority priority) (take n sessions))
 
 abbrev μ-loop : tie.MeasureT-loop
 μ-loop priority n sessions i₀ i = n - i

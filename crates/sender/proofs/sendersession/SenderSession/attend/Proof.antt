@@ -7,6 +7,9 @@ use Rattle.sender.proofs.SessionLaws.{not-over}
 use Rattle.sender.proofs.sendersession.SenderSession.attend.Statement.{statement}
 use Rattle.sender.proofs.sendersession.SenderSession.attend.Tie as tie
 
+slot-at-requires : tie.Need-slot-at-requires
+slot-at-requires c κs = search needs
+
 is-forced-requires : tie.Need-is-forced-requires
 is-forced-requires c κs = search needs
 
@@ -29,21 +32,22 @@ returns : tie.Need-returns
 unfolding attended-of
 returns c =
     let b = c .before .before .before .before in
-    rw (← b .before .before .is-forced .ensures, ← b .before .need-transfer-fdt .ensures, ← b .serve .ensures, c .before .before .enum-told .given .1, c .before .transfer-done .ensures, c .idle .ensures)
+    rw (← b .before .before .before .slot-at .ensures, ← b .before .before .is-forced .ensures, ← b .before .need-transfer-fdt .ensures, ← b .serve .ensures, c .before .before .enum-told .given .1, c .before .transfer-done .ensures, c .idle .ensures)
 
 returns-2 : tie.Need-returns-2
 unfolding attended-of
 returns-2 c =
     let b = c .before .before in
-    let a = b .before .before .before .args in
+    let a = b .before .before .before .before .args in
     let r = b .serve .result in
-    rw (← b .before .before .is-forced .ensures, ← b .before .need-transfer-fdt .ensures, ← b .serve .ensures)
+    rw (← b .before .before .before .slot-at .ensures, ← b .before .before .is-forced .ensures, ← b .before .need-transfer-fdt .ensures, ← b .serve .ensures)
     (not-over (λ (z : Served). _≡_ {A = Ran} (record { answer = z; fdt = a .fdt; session = r .session }) (ran-by (a .now) (a .fdt) (a .self) (r .session) z)) (r .answer) (c .before .match .keys2) refl (λ y. refl))
 
 pub attend-spec : {M : Type 1} → statement M
 attend-spec =
     tie.close
     (tie.spec
+    slot-at-requires
     is-forced-requires
     need-transfer-fdt-requires
     serve-requires

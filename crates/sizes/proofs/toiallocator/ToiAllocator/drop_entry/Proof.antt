@@ -3,7 +3,7 @@ use native.Mathlib.Omega.{arith}
 use borrow.Author.Needs.{needs}
 use Rattle.sizes.specs.Allocator.{without}
 use Rattle.sizes.proofs.AllocatorLaws.{found-inside, dropped-some, dropped-none, becomes, valid-dropped}
-use Rattle.sizes.specs.Allocator.{place-said}
+use Rattle.sizes.specs.Place.{place-said}
 use Rattle.sizes.proofs.toiallocator.ToiAllocator.drop_entry.Statement.{statement}
 use Rattle.sizes.proofs.toiallocator.ToiAllocator.drop_entry.Tie as tie
 

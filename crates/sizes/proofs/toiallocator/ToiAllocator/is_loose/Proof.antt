@@ -1,7 +1,8 @@
 use mathlib.Core.Path.{sym, _∙_, ap}
 use borrow.Author.Needs.{needs}
 use Rattle.sizes.specs.Words.{given}
-use Rattle.sizes.specs.Allocator.{place-said, noted}
+use Rattle.sizes.specs.Place.{place-said}
+use Rattle.sizes.specs.Allocator.{noted}
 use Rattle.sizes.proofs.AllocatorLaws.{loose-found}
 use Rattle.sizes.proofs.toiallocator.ToiAllocator.is_loose.Statement.{statement}
 use Rattle.sizes.proofs.toiallocator.ToiAllocator.is_loose.Tie as tie
