@@ -5,9 +5,9 @@ ghost use Rattle.sizes.specs.Partition.{length-said};
 ghost use Rattle.lifecycle.specs.FdtCalls.{publication-said};
 ghost use Rattle.sender.specs.SenderCalls.{alloc-answer, add-answer, file-answer, fdt-answer};
 ghost use Rattle.desk_program.specs.Replies.{Says, set-up-said, truth-said, total-said, length-shown, record-shown, reading-shown};
+use lifecycle::fdt::Admission;
 use lifecycle::fdt::Publication;
 use lifecycle::fdt::Transfers;
-use sender::sender::AddAnswer;
 use sender::sender::Packet;
 use sender::sender::RunAnswer;
 use sizes::partition::BlockLength;
@@ -82,12 +82,12 @@ pub fn publication_reply(a: Publication) -> Reply
     }
 }
 
-pub fn add_reply(a: AddAnswer) -> Reply
+pub fn add_reply(a: Admission) -> Reply
     ensures { λ r. ⌜ Says (add-answer a) r ⌝ }
 {
     match a {
-        AddAnswer::Toi(n) => Reply::Toi(n),
-        AddAnswer::Refused(why) => Reply::Refused(why),
+        Admission::Toi(n) => Reply::Toi(n),
+        Admission::Refused(why) => Reply::Refused(why),
     }
 }
 

@@ -4,7 +4,6 @@ pub mod quick;
 ghost use mathlib.Core.Path.{_≡_};
 ghost use mathlib.Core.Bool.{true, false};
 ghost use Rattle.sender.specs.SenderCalls.{answer-of};
-ghost use Rattle.sender.specs.SessionCalls.{forced-slot};
 ghost use Rattle.sender.specs.declared.sender.RunAnswer.the-variants as RunV;
 ghost use Rattle.sender.specs.declared.sendersession.Served.the-variants as ServedV;
 ghost use Rattle.fast_run.specs.Settle.{ValidSession, settled-as, settled-of};
@@ -16,6 +15,7 @@ use sender::blockencoder::Symbol;
 use sender::sender::Packet;
 use sender::sender::RunAnswer;
 use sender::sendersession::SenderSession;
+use sender::sendersession::is_forced;
 
 // Is the run settled? Then what the host is told, and the session after it.
 #[repr(C)]
@@ -51,17 +51,6 @@ fn one(x: SenderSession, toi: u64, symbol: Symbol) -> Settled
         answer: run_told(false, RunAnswer::Packet(packet)),
         session: x,
     }
-}
-
-// Is the transfer of the object in the slot to be forced to its end?
-fn is_forced(t: Slot) -> bool
-    ensures { λ r. ⌜ r ≡ forced-slot t ⌝ }
-{
-    if t.listed {
-        return false;
-    }
-    let file = t.file;
-    file.can_transfer_be_stopped()
 }
 
 // With nothing in hand, or at the end of a transfer, the run is not settled here.

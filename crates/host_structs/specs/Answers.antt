@@ -13,8 +13,8 @@ use Rattle.lifecycle.specs.declared.fdt.Publication.{Publication}
 use Rattle.lifecycle.specs.declared.fdt.Publication.the-variants as PublicationV
 use Rattle.lifecycle.specs.declared.fdt.Transfers.{Transfers}
 use Rattle.lifecycle.specs.declared.fdt.Transfers.the-variants as TransfersV
-use Rattle.sender.specs.declared.sender.AddAnswer.{AddAnswer}
-use Rattle.sender.specs.declared.sender.AddAnswer.the-variants as AddV
+use Rattle.lifecycle.specs.declared.fdt.Admission.{Admission}
+use Rattle.lifecycle.specs.declared.fdt.Admission.the-variants as AdmissionV
 use Rattle.sender.specs.declared.sender.RunAnswer.{RunAnswer}
 use Rattle.sender.specs.declared.sender.RunAnswer.the-variants as RunV
 use Rattle.host_structs.specs.declared.answers.Numbered.{Numbered}
@@ -35,9 +35,9 @@ abbrev pub known-told : Known → ℕ
 known-told Done = 0
 known-told Unknown = refusal-number Because.NotLoose
 
-abbrev pub add-told : AddAnswer → Numbered
-add-told (AddV.Toi t) = toi-told t
-add-told (AddV.Refused why) = toi-refused (refusal-number why)
+abbrev pub add-told : Admission → Numbered
+add-told (AdmissionV.Toi t) = toi-told t
+add-told (AdmissionV.Refused why) = toi-refused (refusal-number why)
 
 abbrev pub publication-told : Publication → ℕ
 publication-told PublicationV.Done = 0

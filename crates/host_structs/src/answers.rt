@@ -1,11 +1,11 @@
 // What the host is told: numbers and plain structs. A refusal has its number of the table; 0 is none.
 ghost use mathlib.Core.Path.{_≡_};
 ghost use Rattle.host_structs.specs.Answers.{given-told, known-told, add-told, publication-told, transfers-told, not-sent, run-told, open-told};
+use lifecycle::fdt::Admission;
 use lifecycle::fdt::Publication;
 use lifecycle::fdt::Transfers;
 use lifecycle::parts::Part;
 use sender::blockencoder::Symbol;
-use sender::sender::AddAnswer;
 use sender::sender::Packet;
 use sender::sender::RunAnswer;
 use sizes::numbers::Esi;
@@ -59,12 +59,12 @@ pub fn known_told(a: Known) -> u32
     }
 }
 
-pub fn add_told(a: AddAnswer) -> Numbered
+pub fn add_told(a: Admission) -> Numbered
     ensures { λ r. ⌜ r ≡ add-told a ⌝ }
 {
     match a {
-        AddAnswer::Toi(toi) => Numbered { refused: 0, toi },
-        AddAnswer::Refused(why) => Numbered {
+        Admission::Toi(toi) => Numbered { refused: 0, toi },
+        Admission::Refused(why) => Numbered {
             refused: number_of(why),
             toi: 0,
         },
