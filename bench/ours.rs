@@ -42,7 +42,7 @@ fn object_of(case: &Case, k: usize) -> SdObject {
         },
         own: false,
         sizes: SdSizes { e: 0, b: 0 },
-        rule: SdRule {
+        plan: SdPlan {
             most: 1,
             repeats: false,
             from_start: false,

@@ -60,7 +60,7 @@ static void set_up(void) {
 
 /* Adds a bank, to be sent `most` times by the session of this priority. */
 static uint64_t add(uint32_t priority, sd_part part, uint32_t most) {
-    sd_object o = {.priority = priority, .part = part, .rule = {.most = most}};
+    sd_object o = {.priority = priority, .part = part, .plan = {.most = most}};
     sd_numbered r = sd_add(&sender, o);
     if (r.refused != 0) fail("add", r.refused);
     return r.toi;

@@ -88,16 +88,16 @@ static void add(void) {
     o.part = part(2);
     o.own = !is(4, "-");
     if (o.own) o.sizes = (sd_sizes){.e = number(4), .b = number(5)};
-    o.rule.most = (uint32_t)number(6);
-    o.rule.repeats = !is(7, "none");
-    o.rule.from_start = is(7, "interval");
-    o.rule.interval = number(8);
-    o.rule.paced = !is(9, "none");
-    o.rule.by_time = is(9, "at");
-    o.rule.target = number(10);
+    o.plan.most = (uint32_t)number(6);
+    o.plan.repeats = !is(7, "none");
+    o.plan.from_start = is(7, "interval");
+    o.plan.interval = number(8);
+    o.plan.paced = !is(9, "none");
+    o.plan.by_time = is(9, "at");
+    o.plan.target = number(10);
     o.start.known = !is(11, "-");
     if (o.start.known) o.start.at = number(11);
-    o.rule.stop_at_once = number(12) == 1;
+    o.plan.stop_at_once = number(12) == 1;
     o.named = !is(13, "-");
     if (o.named) o.toi = number(13);
     /* as above: no session has a wider priority */

@@ -62,7 +62,7 @@ typedef struct sd_time {
 } sd_time;
 
 /* How an object is sent. */
-typedef struct sd_rule {
+typedef struct sd_plan {
     uint32_t most;       /* transfers in a round; then the carousel's wait begins, or, without one, the object leaves */
     bool repeats;        /* is there a carousel? */
     bool from_start;     /* its interval counts from the last start, else from the last end */
@@ -71,7 +71,7 @@ typedef struct sd_rule {
     bool by_time;        /* `target` is a time to end by, else a duration */
     uint64_t target;
     bool stop_at_once;   /* may it be stopped before it was sent once? */
-} sd_rule;
+} sd_plan;
 
 /* An object to add. */
 typedef struct sd_object {
@@ -79,7 +79,7 @@ typedef struct sd_object {
     sd_part part;        /* of the object store */
     bool own;            /* has it sizes of its own, else those of the set-up? */
     sd_sizes sizes;
-    sd_rule rule;
+    sd_plan plan;
     sd_time start;       /* the earliest start, if any */
     bool named;          /* has it the reserved number `toi`, else a new one? */
     uint64_t toi;
@@ -222,22 +222,22 @@ SD_SAME(sizeof(sd_time) == 16);
 SD_SAME(offsetof(sd_time, known) == 0);
 SD_SAME(offsetof(sd_time, at) == 8);
 
-SD_SAME(sizeof(sd_rule) == 40);
-SD_SAME(offsetof(sd_rule, most) == 0);
-SD_SAME(offsetof(sd_rule, repeats) == 4);
-SD_SAME(offsetof(sd_rule, from_start) == 5);
-SD_SAME(offsetof(sd_rule, interval) == 8);
-SD_SAME(offsetof(sd_rule, paced) == 16);
-SD_SAME(offsetof(sd_rule, by_time) == 17);
-SD_SAME(offsetof(sd_rule, target) == 24);
-SD_SAME(offsetof(sd_rule, stop_at_once) == 32);
+SD_SAME(sizeof(sd_plan) == 40);
+SD_SAME(offsetof(sd_plan, most) == 0);
+SD_SAME(offsetof(sd_plan, repeats) == 4);
+SD_SAME(offsetof(sd_plan, from_start) == 5);
+SD_SAME(offsetof(sd_plan, interval) == 8);
+SD_SAME(offsetof(sd_plan, paced) == 16);
+SD_SAME(offsetof(sd_plan, by_time) == 17);
+SD_SAME(offsetof(sd_plan, target) == 24);
+SD_SAME(offsetof(sd_plan, stop_at_once) == 32);
 
 SD_SAME(sizeof(sd_object) == 120);
 SD_SAME(offsetof(sd_object, priority) == 0);
 SD_SAME(offsetof(sd_object, part) == 8);
 SD_SAME(offsetof(sd_object, own) == 24);
 SD_SAME(offsetof(sd_object, sizes) == 32);
-SD_SAME(offsetof(sd_object, rule) == 48);
+SD_SAME(offsetof(sd_object, plan) == 48);
 SD_SAME(offsetof(sd_object, start) == 88);
 SD_SAME(offsetof(sd_object, named) == 104);
 SD_SAME(offsetof(sd_object, toi) == 112);

@@ -51,7 +51,7 @@ pub struct SdTime {
 /// How an object is sent.
 #[repr(C)]
 #[derive(Clone, Copy, Debug)]
-pub struct SdRule {
+pub struct SdPlan {
     /// Transfers in a round; then the carousel's wait begins, or, without one, the object leaves.
     pub most: u32,
     /// Is there a carousel?
@@ -79,7 +79,7 @@ pub struct SdObject {
     /// Has it sizes of its own, else those of the set-up?
     pub own: bool,
     pub sizes: SdSizes,
-    pub rule: SdRule,
+    pub plan: SdPlan,
     /// The earliest start, if any.
     pub start: SdTime,
     /// Has it the reserved number `toi`, else a new one?
@@ -258,7 +258,7 @@ same!(SdPart, 16, start 0, size 8);
 same!(SdSizes, 16, e 0, b 8);
 same!(SdTime, 16, known 0, at 8);
 same!(
-    SdRule,
+    SdPlan,
     40,
     most 0,
     repeats 4,
@@ -269,7 +269,7 @@ same!(
     target 24,
     stop_at_once 32
 );
-same!(SdObject, 120, priority 0, part 8, own 24, sizes 32, rule 48, start 88, named 104, toi 112);
+same!(SdObject, 120, priority 0, part 8, own 24, sizes 32, plan 48, start 88, named 104, toi 112);
 same!(
     SdSetup,
     112,

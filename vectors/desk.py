@@ -330,9 +330,9 @@ def no_sender():
         yield from rust(f"partition {l} {e} {b}")
         yield from rust(*(f"blocklength {l} {e} {b} {k}" for k in rng.sample([0, 1, 2, 3, 65535, 2**32 - 1], 2)))
     for _ in range(30):
-        large, e, bigs, k = rng.randint(1, 99), rng.randint(1, 99), rng.randrange(5), rng.randrange(9)
-        start = (min(k, bigs) * large + max(0, k - bigs) * (large - 1)) * e
-        yield from rust(f"rawlength {large} {large - 1} {bigs} {max(0, start + rng.choice((-1, 0, 1, e, 99 * e)))} {e} {k}")
+        large, e, nb_a_large, k = rng.randint(1, 99), rng.randint(1, 99), rng.randrange(5), rng.randrange(9)
+        start = (min(k, nb_a_large) * large + max(0, k - nb_a_large) * (large - 1)) * e
+        yield from rust(f"rawlength {large} {large - 1} {nb_a_large} {max(0, start + rng.choice((-1, 0, 1, e, 99 * e)))} {e} {k}")
         yield from rust("rawlength %d %d %d %d %d %d" % (*(rng.choice(numbers) for _ in range(5)), rng.choice((0, 1, 5, 2**32 - 1))))
     for line in ["0 1 1 1", "0 65535 65535 16", "1 1 1 1", "10 2 2 2", "10 2 2 3", "13 1 4 2", "23 3 7 2", "11 1 3 16", "40 1 3 5", "199 2 7 4",
                  "65535 65535 65535 16", "010 0002 2 02", "\t10   2\t2 2 "]:

@@ -74,9 +74,9 @@ def calls():
         small = rng.choice((large, large - 1, 0))
         lines.append(f"rawlength {large} {small} {rng.randrange(4)} {rng.choice((TOP, TOP - 1, number(rng)))} {e} {rng.randrange(4)}")
     for _ in range(300):
-        large, e, bigs, k = rng.randint(1, 99), rng.randint(1, 99), rng.randrange(5), rng.randrange(9)
-        start = (min(k, bigs) * large + max(0, k - bigs) * (large - 1)) * e
-        lines.append(f"rawlength {large} {large - 1} {bigs} {max(0, start + rng.choice((-1, 0, 1, e, 99 * e)))} {e} {k}")
+        large, e, nb_a_large, k = rng.randint(1, 99), rng.randint(1, 99), rng.randrange(5), rng.randrange(9)
+        start = (min(k, nb_a_large) * large + max(0, k - nb_a_large) * (large - 1)) * e
+        lines.append(f"rawlength {large} {large - 1} {nb_a_large} {max(0, start + rng.choice((-1, 0, 1, e, 99 * e)))} {e} {k}")
     for _ in range(700):
         lines.append("rawlength %d %d %d %d %d %d" % (*(number(rng) for _ in range(5)), number(rng) % 2**32))
     return lines

@@ -17,7 +17,7 @@ use Rattle.lifecycle.specs.declared.parts.Part.{Part}
 use Rattle.lifecycle.specs.Setup.{Setup, bad-blocks}
 use Rattle.definition.specs.Session.{Object, Hand, Session}
 use Rattle.definition.specs.Desk.{Desk, Request, Call, Answer, opening, in-hands, objects, is, reserved, toi-for, admitted, own-sizes, no-session, bad-object-part, not-loose, full, no-room, add-refusal, Result, unless, step}
-use Rattle.definition.specs.Apart.{mine, owns, about, adding, number-in, noted, key, call-by, answer-by, is-barred, turned-away}
+use Rattle.definition.specs.Apart.{mine, owns, about, adding, number-in, got-after, key, call-by, answer-by, is-barred, turned-away}
 use Rattle.definition.proofs.Numbers.{Unique, unique-step, unique-opening, tois, admissible}
 use Rattle.definition.proofs.RefusalTables.{early-refusal, late-no, add-early, add-unreached}
 use Rattle.definition.proofs.View.{retag, retag-held, seen, see, seen-append}
@@ -206,7 +206,7 @@ about-add p d (Call.run-fdt now draft) x e = absurd (none≢some e)
 about-add p d (Call.run-file n now) x e = absurd (none≢some e)
 
 -- a call that does not admit for a priority notes nothing for it
-noted-other : (r : ℕ) (c : Call) (a : Answer) (j : List ℕ) → ((x : Option ℕ × Request) → adding c ≡ some x → eqb (x .1 .priority) r ≡ false) → noted r c a j ≡ j
+noted-other : (r : ℕ) (c : Call) (a : Answer) (j : List ℕ) → ((x : Option ℕ × Request) → adding c ≡ some x → eqb (x .1 .priority) r ≡ false) → got-after r c a j ≡ j
 noted-other r c a j h = go (adding c) refl
   where
     nothing : (n : Option ℕ) → maybe j (λ (t : ℕ). j) n ≡ j
@@ -218,15 +218,15 @@ noted-other r c a j h = go (adding c) refl
     go (some x) e = simp (h x e) (nothing (number-in a))
 
 -- a call that is not the priority's notes nothing for it, and one that is nothing for another
-pub noted-hidden : (p : ℕ) (d : Desk) (c : Call) (a : Answer) (j : List ℕ) → about p d c ≡ false → noted p c a j ≡ j
+pub noted-hidden : (p : ℕ) (d : Desk) (c : Call) (a : Answer) (j : List ℕ) → about p d c ≡ false → got-after p c a j ≡ j
 noted-hidden p d c a j h = noted-other p c a j (λ x e. sym (about-add p d c x e) ∙ h)
 
-noted-none : (p r : ℕ) (e : Desk) (c : Call) (a : Answer) → about p e c ≡ true → eqb r p ≡ false → noted r c a [] ≡ []
+noted-none : (p r : ℕ) (e : Desk) (c : Call) (a : Answer) → about p e c ≡ true → eqb r p ≡ false → got-after r c a [] ≡ []
 noted-none p r e c a h z = noted-other r c a [] (λ x y. ne-eqb (x .1 .priority) r (λ w. true≢false (sym (eq-eqb r p (sym w ∙ eqb-true (x .1 .priority) p (sym (about-add p e c x y) ∙ h))) ∙ z)))
 
 module _ (s : Setup) (p : ℕ) (w : 16 ≤ s .width) where
   -- a call that is not the priority's
-  pub rel-hidden : (j : List ℕ) (d : Desk) (i : List ℕ) (e : Desk) (c : Call) → Rel s p j d i e → about p d c ≡ false → Rel s p (noted p c (step s d c .0) j) (step s d c .1) i e
+  pub rel-hidden : (j : List ℕ) (d : Desk) (i : List ℕ) (e : Desk) (c : Call) → Rel s p j d i e → about p d c ≡ false → Rel s p (got-after p c (step s d c .0) j) (step s d c .1) i e
   rel-hidden j d i e c r a = record {
     unique = unique-step s d c w (r .unique);
     known = known-step p j s d c (r .known);
@@ -239,12 +239,12 @@ module _ (s : Setup) (p : ℕ) (w : 16 ≤ s .width) where
   -- one of the priority's, and its like there: the two are answered alike
   module _ (j : List ℕ) (d : Desk) (i : List ℕ) (e : Desk) (c c′ : Call) (r : Rel s p j d i e) (a : about p d c ≡ true) (h : turned-away p c (step s d c .0) ≡ false)
       (a′ : about p e c′ ≡ true) (n : call-by (key i) c′ ≡ call-by (key j) c) (h′ : turned-away p c′ (step s e c′ .0) ≡ false) where
-    pub both : _≡_ {A = Result} (answer-by (key (noted p c (step s d c .0) j)) (step s d c .0), view p (noted p c (step s d c .0) j) (step s d c .1))
-        (answer-by (key (noted p c′ (step s e c′ .0) i)) (step s e c′ .0), view p (noted p c′ (step s e c′ .0) i) (step s e c′ .1))
+    pub both : _≡_ {A = Result} (answer-by (key (got-after p c (step s d c .0) j)) (step s d c .0), view p (got-after p c (step s d c .0) j) (step s d c .1))
+        (answer-by (key (got-after p c′ (step s e c′ .0) i)) (step s e c′ .0), view p (got-after p c′ (step s e c′ .0) i) (step s e c′ .1))
     both = sym (shown p j s d c (r .unique) (r .known) a h) ∙ ap (λ v. own-step s v (call-by (key j) c)) (r .same) ∙ ap (own-step s (view p i e)) (sym n)
         ∙ shown p i s e c′ (r .unique′) (r .known′) a′ h′
 
-    pub rel-shown : Rel s p (noted p c (step s d c .0) j) (step s d c .1) (noted p c′ (step s e c′ .0) i) (step s e c′ .1)
+    pub rel-shown : Rel s p (got-after p c (step s d c .0) j) (step s d c .1) (got-after p c′ (step s e c′ .0) i) (step s e c′ .1)
     rel-shown = record {
       unique = unique-step s d c w (r .unique);
       known = known-step p j s d c (r .known);

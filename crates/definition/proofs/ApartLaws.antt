@@ -18,7 +18,7 @@ use Rattle.lifecycle.specs.Fdt.{Instance, next-fdt, fdt-done}
 use Rattle.definition.specs.FdtSession.{Fdt, FdtTurn, Packet, fdt-published, fdt-run, fdt-sent}
 use Rattle.definition.specs.Session.{Object, Hand, Session, Turn, file-run}
 use Rattle.definition.specs.Desk.{Desk, Request, Call, Answer, opening, in-hands, objects, numbers, is, listed-in-hands, listed-as, moved, numbered, with-fdt, in-hand, marked, marked-hand, all-published, reserved, toi-for, made, admitted, own-sizes, no-session, bad-object-part, not-loose, no-room, reserve-refusal, release-refusal, add-refusal, publish-refusal, draft-refusal, draft-of, Result, unless, ran, step, unloosed, fdt-queued, fdt-ran, Touch, Question, waiting-after, hand-after, touched-waiting, touched-hand, touched, answer-to}
-use Rattle.definition.specs.Apart.{mine, owns, about, noted, key, call-by, packet-by, perhaps-by, answer-by, bars, is-barred, turned-away, calls, answers, smooth, Alike as AlikeRuns, PacketOf, NumberOf, OwnNumbers, about-question, question-by}
+use Rattle.definition.specs.Apart.{mine, owns, about, got-after, key, call-by, packet-by, perhaps-by, answer-by, bars, is-barred, turned-away, calls, answers, smooth, Alike as AlikeRuns, PacketOf, NumberOf, OwnNumbers, about-question, question-by}
 use Rattle.definition.proofs.Numbers.{Unique, unique-step, unique-opening, tois, admissible}
 use Rattle.definition.proofs.RefusalTables.{early-refusal, late-no, add-early}
 use Rattle.definition.proofs.View.{retag, retag-held, seen, see, seen-append, seen-mine, seen-other, Alike, seen-find, seen-map, see-turn, Sends, file-run-seen}
@@ -472,8 +472,8 @@ add-result s d named q = (Answer.number (toi-for d named), admitted s (toi-for d
 -- an add of the priority
 add-shown : (p : ℕ) (j : List ℕ) (s : Setup) (d : Desk) (named : Option ℕ) (q : Request) → Unique s d → eqb (q .priority) p ≡ true → is-barred (step s d (Call.add named q) .0) ≡ false
     → own-step s (view p j d) (Call.add none q) ≡ (
-      answer-by (key (noted p (Call.add named q) (step s d (Call.add named q) .0) j)) (step s d (Call.add named q) .0),
-      view p (noted p (Call.add named q) (step s d (Call.add named q) .0) j) (step s d (Call.add named q) .1),
+      answer-by (key (got-after p (Call.add named q) (step s d (Call.add named q) .0) j)) (step s d (Call.add named q) .0),
+      view p (got-after p (Call.add named q) (step s d (Call.add named q) .0) j) (step s d (Call.add named q) .1),
     )
 unfolding step
 add-shown p j s d named q u e h = go (add-refusal s d named q) refl h
@@ -486,7 +486,7 @@ add-shown p j s d named q u e h = go (add-refusal s d named q) refl h
 
     go : (x : Option Refusal) → add-refusal s d named q ≡ x → is-barred (unless x d (add-result s d named q) .0) ≡ false
         → unless (early-refusal s (view p j d) q) (view p j d) (Answer.number (suc (length j)), one-more s q (view p j d))
-        ≡ (answer-by (key (noted p (Call.add named q) (unless x d (add-result s d named q) .0) j)) (unless x d (add-result s d named q) .0), view p (noted p (Call.add named q) (unless x d (add-result s d named q) .0) j) (unless x d (add-result s d named q) .1))
+        ≡ (answer-by (key (got-after p (Call.add named q) (unless x d (add-result s d named q) .0) j)) (unless x d (add-result s d named q) .0), view p (got-after p (Call.add named q) (unless x d (add-result s d named q) .0) j) (unless x d (add-result s d named q) .1))
     go none r l = rw (early-seen p j s d q ∙ sym (add-early s d named q (ap late-no r)) ∙ r) (rw e (
         let same : one-more s q (view p j d) ≡ view p (t ∷ j) (admitted s t q d′) =
         ap (one-more s q) (sym (maybe-reserved-hidden p j s d named))
@@ -596,7 +596,7 @@ fdt-run-packet s now draft f = fdt-run-goes s now draft (λ b f. Unit {0}) (λ (
 }) f tt
 
 -- a call that is not the priority's does not show
-pub hidden : (p : ℕ) (j : List ℕ) (s : Setup) (d : Desk) (c : Call) → Known p j d → about p d c ≡ false → view p (noted p c (step s d c .0) j) (step s d c .1) ≡ view p j d
+pub hidden : (p : ℕ) (j : List ℕ) (s : Setup) (d : Desk) (c : Call) → Known p j d → about p d c ≡ false → view p (got-after p c (step s d c .0) j) (step s d c .1) ≡ view p j d
 unfolding step about numbered moved
 hidden p j s d Call.reserve k e = go (reserve-refusal d)
   where
@@ -610,7 +610,7 @@ hidden p j s d (Call.release t) k e = go (release-refusal d t)
     go (some n) = refl
 hidden p j s d (Call.add named q) k e = go (add-refusal s d named q)
   where
-    go : (x : Option Refusal) → view p (noted p (Call.add named q) (unless x d (add-result s d named q) .0) j) (unless x d (add-result s d named q) .1) ≡ view p j d
+    go : (x : Option Refusal) → view p (got-after p (Call.add named q) (unless x d (add-result s d named q) .0) j) (unless x d (add-result s d named q) .1) ≡ view p j d
     go none = rw e (admitted-hidden p j s (toi-for d named) q (if given named then d else reserved s d) e ∙ maybe-reserved-hidden p j s d named)
     go (some n) = refl
 hidden p j s d (Call.touch t x) k e = touched-hidden p j d t x k e
@@ -632,7 +632,7 @@ answer-seen p j s d (Question.transfers t) u k e = ap Answer.transferred (total-
 
 -- one of the priority's is answered as on its own desk
 pub shown : (p : ℕ) (j : List ℕ) (s : Setup) (d : Desk) (c : Call) → Unique s d → Known p j d → about p d c ≡ true → turned-away p c (step s d c .0) ≡ false
-    → own-step s (view p j d) (call-by (key j) c) ≡ (answer-by (key (noted p c (step s d c .0) j)) (step s d c .0), view p (noted p c (step s d c .0) j) (step s d c .1))
+    → own-step s (view p j d) (call-by (key j) c) ≡ (answer-by (key (got-after p c (step s d c .0) j)) (step s d c .0), view p (got-after p c (step s d c .0) j) (step s d c .1))
 unfolding step about numbered moved with-fdt fdt-ran
 shown p j s d Call.reserve u k e h = absurd (false≢true e)
 shown p j s d (Call.release t) u k e h = absurd (false≢true e)
@@ -671,13 +671,13 @@ unfolding answers calls smooth
 answered-alone s p w j d [] u k h = refl
 answered-alone s p w j d (c ∷ l) u k h =
     (elim (about p d c) as (λ b. about p d c ≡ b
-    → (if b then answer-by (key (noted p c (step s d c .0) j)) (step s d c .0) ∷ answers s p (noted p c (step s d c .0) j) (step s d c .1) l else answers s p (noted p c (step s d c .0) j) (step s d c .1) l)
-    ≡ own-run s (view p j d) (if b then call-by (key j) c ∷ calls s p (noted p c (step s d c .0) j) (step s d c .1) l else calls s p (noted p c (step s d c .0) j) (step s d c .1) l)) [
+    → (if b then answer-by (key (got-after p c (step s d c .0) j)) (step s d c .0) ∷ answers s p (got-after p c (step s d c .0) j) (step s d c .1) l else answers s p (got-after p c (step s d c .0) j) (step s d c .1) l)
+    ≡ own-run s (view p j d) (if b then call-by (key j) c ∷ calls s p (got-after p c (step s d c .0) j) (step s d c .1) l else calls s p (got-after p c (step s d c .0) j) (step s d c .1) l)) [
       | true ↦ λ e. (let q = shown p j s d c u k e (not-true (turned-away p c (step s d c .0)) (and-left (not (turned-away p c (step s d c .0))) (smooth s p (step s d c .1) l) h)) in
-          (let rest = answered-alone s p w (noted p c (step s d c .0) j) (step s d c .1) l (unique-step s d c w u) (known-step p j s d c k) (and-right (not (turned-away p c (step s d c .0))) (smooth s p (step s d c .1) l) h) in
-          λ i. sym q i .0 ∷ (rest ∙ ap (λ (r : Result). own-run s (r .1) (calls s p (noted p c (step s d c .0) j) (step s d c .1) l)) (sym q)) i))
-      | false ↦ λ e. answered-alone s p w (noted p c (step s d c .0) j) (step s d c .1) l (unique-step s d c w u) (known-step p j s d c k) (and-right (not (turned-away p c (step s d c .0))) (smooth s p (step s d c .1) l) h)
-          ∙ ap (λ v. own-run s v (calls s p (noted p c (step s d c .0) j) (step s d c .1) l)) (hidden p j s d c k e)
+          (let rest = answered-alone s p w (got-after p c (step s d c .0) j) (step s d c .1) l (unique-step s d c w u) (known-step p j s d c k) (and-right (not (turned-away p c (step s d c .0))) (smooth s p (step s d c .1) l) h) in
+          λ i. sym q i .0 ∷ (rest ∙ ap (λ (r : Result). own-run s (r .1) (calls s p (got-after p c (step s d c .0) j) (step s d c .1) l)) (sym q)) i))
+      | false ↦ λ e. answered-alone s p w (got-after p c (step s d c .0) j) (step s d c .1) l (unique-step s d c w u) (known-step p j s d c k) (and-right (not (turned-away p c (step s d c .0))) (smooth s p (step s d c .1) l) h)
+          ∙ ap (λ v. own-run s v (calls s p (got-after p c (step s d c .0) j) (step s d c .1) l)) (hidden p j s d c k e)
     ]) refl
 
 -- two runs with the same calls about the priority are answered alike
@@ -702,13 +702,13 @@ answer-own j d (Question.listed t) = tt
 answer-own j d (Question.transfers t) = tt
 
 -- a call of the priority
-number-step : (p : ℕ) (j : List ℕ) (s : Setup) (d : Desk) (c : Call) → Known p j d → about p d c ≡ true → NumberOf (noted p c (step s d c .0) j) (step s d c .0)
+number-step : (p : ℕ) (j : List ℕ) (s : Setup) (d : Desk) (c : Call) → Known p j d → about p d c ≡ true → NumberOf (got-after p c (step s d c .0) j) (step s d c .0)
 unfolding step about ran fdt-ran
 number-step p j s d Call.reserve k e = absurd (false≢true e)
 number-step p j s d (Call.release t) k e = absurd (false≢true e)
 number-step p j s d (Call.add named q) k e = go (add-refusal s d named q)
   where
-    go : (x : Option Refusal) → NumberOf (noted p (Call.add named q) (unless x d (add-result s d named q) .0) j) (unless x d (add-result s d named q) .0)
+    go : (x : Option Refusal) → NumberOf (got-after p (Call.add named q) (unless x d (add-result s d named q) .0) j) (unless x d (add-result s d named q) .0)
     go none = tt
     go (some n) = tt
 number-step p j s d (Call.touch t x) k e = tt
@@ -737,4 +737,4 @@ number-step p j s d (Call.run-file i now) k e = go (at (d .sessions) i) refl e
 -- object numbers in the answers are those that the priority's admissions got
 pub own-numbers : (s : Setup) (p : ℕ) (j : List ℕ) (d : Desk) (l : List Call) → Known p j d → OwnNumbers s p j d l
 own-numbers s p j d [] k = tt
-own-numbers s p j d (c ∷ l) k = (λ e. number-step p j s d c k e, own-numbers s p (noted p c (step s d c .0) j) (step s d c .1) l (known-step p j s d c k))
+own-numbers s p j d (c ∷ l) k = (λ e. number-step p j s d c k e, own-numbers s p (got-after p c (step s d c .0) j) (step s d c .1) l (known-step p j s d c k))

@@ -15,7 +15,7 @@ use Rattle.lifecycle.specs.Setup.{Setup}
 use Rattle.definition.specs.FdtSession.{Fdt, FdtTurn, Packet, fdt-published, fdt-run}
 use Rattle.definition.specs.Session.{Object, Hand, Session, living, startable, begin, put-back, Turn, sent, file-run}
 use Rattle.definition.specs.Desk.{Desk, Request, Call, Answer, opening, moved, numbered, with-fdt, in-hand, marked, marked-hand, all-published, reserved, toi-for, made, admitted, reserve-refusal, release-refusal, add-refusal, publish-refusal, draft-refusal, draft-of, unless, ran, step, unloosed, fdt-queued, fdt-ran, Touch, touched-waiting, touched-hand, touched}
-use Rattle.definition.specs.Apart.{mine, noted}
+use Rattle.definition.specs.Apart.{mine, got-after}
 use Rattle.definition.proofs.View.{retag, seen, seen-append, seen-other}
 use Rattle.sizes.specs.Words.{Each}
 use Rattle.sizes.proofs.Tests.{and-left}
@@ -166,7 +166,7 @@ has-first : (t : ℕ) (j : List ℕ) → has t (t ∷ j) ≡ true
 has-first t j = rw (eq-eqb t t refl)
 
 pub add-known : (p : ℕ) (j : List ℕ) (s : Setup) (t : ℕ) (q : Request) (d : Desk) (named : Option ℕ) → Known p j d
-    → Known p (noted p (Call.add named q) (Answer.number t) j) (admitted s t q (if given named then d else reserved s d))
+    → Known p (got-after p (Call.add named q) (Answer.number t) j) (admitted s t q (if given named then d else reserved s d))
 add-known p j s t q d named u = (elim (eqb (q .priority) p) as (λ b. eqb (q .priority) p ≡ b → Known p (if b then t ∷ j else j) (admitted s t q (if given named then d else reserved s d))) [
   | true ↦ λ e. admitted-known p (t ∷ j) s t q (if given named then d else reserved s d) (λ k. has-first t j) (more-known p t j (if given named then d else reserved s d) (reserved-known p j s d named u))
   | false ↦ λ e. admitted-known p j s t q (if given named then d else reserved s d) (λ k. absurd (true≢false (sym k ∙ e))) (reserved-known p j s d named u)
@@ -179,7 +179,7 @@ ran-known p j s now i d x e u =
     record { waiting = k .0; serving = each-set (Fits p j) (d .sessions) i _ (u .serving) (k .1) }
 
 -- every call keeps it
-pub known-step : (p : ℕ) (j : List ℕ) (s : Setup) (d : Desk) (c : Call) → Known p j d → Known p (noted p c (step s d c .0) j) (step s d c .1)
+pub known-step : (p : ℕ) (j : List ℕ) (s : Setup) (d : Desk) (c : Call) → Known p j d → Known p (got-after p c (step s d c .0) j) (step s d c .1)
 unfolding step numbered moved touched unloosed fdt-ran
 known-step p j s d Call.reserve u = go (reserve-refusal d)
   where
@@ -193,7 +193,7 @@ known-step p j s d (Call.release t) u = go (release-refusal d t)
     go (some n) = u
 known-step p j s d (Call.add named q) u = go (add-refusal s d named q)
   where
-    go : (x : Option Refusal) → Known p (noted p (Call.add named q) (unless x d (Answer.number (toi-for d named), admitted s (toi-for d named) q (if given named then d else reserved s d)) .0) j)
+    go : (x : Option Refusal) → Known p (got-after p (Call.add named q) (unless x d (Answer.number (toi-for d named), admitted s (toi-for d named) q (if given named then d else reserved s d)) .0) j)
         (unless x d (Answer.number (toi-for d named), admitted s (toi-for d named) q (if given named then d else reserved s d)) .1)
     go none = add-known p j s (toi-for d named) q d named u
     go (some n) = u

@@ -16,7 +16,7 @@ use Rattle.sizes.specs.Limits.{toi-entries, object-slots}
 use Rattle.definition.specs.FdtSession.{FdtTurn, fdt-published, fdt-run}
 use Rattle.definition.specs.Session.{Session}
 use Rattle.definition.specs.Desk.{Desk, Request, Call, Answer, opening, objects, numbers, moved, numbered, with-fdt, all-published, reserved, toi-for, admitted, not-loose, full, no-room, reserve-refusal, release-refusal, add-refusal, publish-refusal, draft-refusal, draft-of, Result, unless, ran, step, unloosed, fdt-ran, Question, touched, answer-to}
-use Rattle.definition.specs.Apart.{owns, about, noted, key, call-by, answer-by, turned-away, calls, smooth, accepted, ends, adds, look, through, tie, claims, reserves, asks-loose, only, Alike, lone, Only, Demand-3, about-question, question-by, number-in}
+use Rattle.definition.specs.Apart.{owns, about, got-after, key, call-by, answer-by, turned-away, calls, smooth, accepted, ends, adds, look, through, tie, claims, reserves, asks-loose, only, Alike, lone, Only, Demand-3, about-question, question-by, number-in}
 use Rattle.lifecycle.proofs.SetupLaws.{told}
 use Rattle.definition.proofs.Numbers.{Unique, unique-step, tois, times-without, admissible, loose-true}
 use Rattle.definition.proofs.Known.{Known, known-step, known-opening}
@@ -170,7 +170,7 @@ record Quiet (s : Setup) (p : ℕ) (d : Desk) (c : Call) : Type 0 where
   same-loose : step s d c .1 .loose ≡ d .loose
   no-end : (t : ℕ) → ends t c (step s d c .0) ≡ false
   no-tie : (a : Answer) (m : List (ℕ × ℕ)) → tie (step s d c .0) a m ≡ m
-  no-note : (j : List ℕ) → noted p c (step s d c .0) j ≡ j
+  no-note : (j : List ℕ) → got-after p c (step s d c .0) j ≡ j
 
 -- an answer without a number ties nothing
 untied : (a b : Answer) (m : List (ℕ × ℕ)) → number-in a ≡ none → tie a b m ≡ m
@@ -340,8 +340,8 @@ loose-once s d u t = let a = times-append t (d .loose) (tois (objects d)) in let
 -- an admitted add of the priority, on both sides
 module _ (s : Setup) (p : ℕ) (j : List ℕ) (d : Desk) (i : List ℕ) (e : Desk) (m : List (ℕ × ℕ)) (l : List Call) (q : Request) (a : eqb (q .priority) p ≡ true) where
   add-none : RelO s p j d i e m (Before s p d (Call.add none q) l (add-result s d none q))
-      → Rel s p (noted p (Call.add none q) (Answer.number (d .next)) j) (add-result s d none q .1) (noted p (Call.add none q) (Answer.number (e .next)) i) (add-result s e none q .1)
-      → RelO s p (noted p (Call.add none q) (Answer.number (d .next)) j) (add-result s d none q .1) (noted p (Call.add none q) (Answer.number (e .next)) i) (add-result s e none q .1)
+      → Rel s p (got-after p (Call.add none q) (Answer.number (d .next)) j) (add-result s d none q .1) (got-after p (Call.add none q) (Answer.number (e .next)) i) (add-result s e none q .1)
+      → RelO s p (got-after p (Call.add none q) (Answer.number (d .next)) j) (add-result s d none q .1) (got-after p (Call.add none q) (Answer.number (e .next)) i) (add-result s e none q .1)
       ((d .next, e .next) ∷ m) (Then s p l (add-result s d none q))
   unfolding toi-for
   add-none o r = record {
@@ -357,8 +357,8 @@ module _ (s : Setup) (p : ℕ) (j : List ℕ) (d : Desk) (i : List ℕ) (e : Des
       same = ap (keep (λ t. claims s p t (admitted s (d .next) q (reserved s d)) l)) (admitted-loose s d q (o .rel .unique))
 
   add-some : (t : ℕ) → has t (d .loose) ≡ true → RelO s p j d i e m (Before s p d (Call.add (some t) q) l (add-result s d (some t) q))
-      → Rel s p (noted p (Call.add (some t) q) (Answer.number t) j) (add-result s d (some t) q .1) (noted p (Call.add (some (look m t)) q) (Answer.number (look m t)) i) (add-result s e (some (look m t)) q .1)
-      → RelO s p (noted p (Call.add (some t) q) (Answer.number t) j) (add-result s d (some t) q .1) (noted p (Call.add (some (look m t)) q) (Answer.number (look m t)) i) (add-result s e (some (look m t)) q .1)
+      → Rel s p (got-after p (Call.add (some t) q) (Answer.number t) j) (add-result s d (some t) q .1) (got-after p (Call.add (some (look m t)) q) (Answer.number (look m t)) i) (add-result s e (some (look m t)) q .1)
+      → RelO s p (got-after p (Call.add (some t) q) (Answer.number t) j) (add-result s d (some t) q .1) (got-after p (Call.add (some (look m t)) q) (Answer.number (look m t)) i) (add-result s e (some (look m t)) q .1)
       ((t, look m t) ∷ m) (Then s p l (add-result s d (some t) q))
   unfolding toi-for
   add-some t z o r = record {
@@ -500,23 +500,23 @@ accepted-by f (Answer.output k) = refl
 -- a call that touches no reservation, on both sides
 after-quiet : (s : Setup) (p : ℕ) (j : List ℕ) (d : Desk) (i : List ℕ) (e : Desk) (m : List (ℕ × ℕ)) (l : List Call) (c : Call) → quiet c ≡ true
     → RelO s p j d i e m (claimed s p d (c ∷ l))
-    → Rel s p (noted p c (step s d c .0) j) (step s d c .1) (noted p (through m c) (step s e (through m c) .0) i) (step s e (through m c) .1)
-    → RelO s p (noted p c (step s d c .0) j) (step s d c .1) (noted p (through m c) (step s e (through m c) .0) i) (step s e (through m c) .1)
+    → Rel s p (got-after p c (step s d c .0) j) (step s d c .1) (got-after p (through m c) (step s e (through m c) .0) i) (step s e (through m c) .1)
+    → RelO s p (got-after p c (step s d c .0) j) (step s d c .1) (got-after p (through m c) (step s e (through m c) .0) i) (step s e (through m c) .1)
     (tie (step s d c .0) (step s e (through m c) .0) m) (claimed s p (step s d c .1) l)
 after-quiet s p j d i e m l c k o r =
     let x = quieted s p d c k in
     let y = quieted s p e (through m c) (quiet-through m c k) in
-    relO-move s p j (noted p c (step s d c .0) j) d (step s d c .1) i (noted p (through m c) (step s e (through m c) .0) i) e (step s e (through m c) .1)
+    relO-move s p j (got-after p c (step s d c .0) j) d (step s d c .1) i (got-after p (through m c) (step s e (through m c) .0) i) e (step s e (through m c) .1)
     m (tie (step s d c .0) (step s e (through m c) .0) m) (claimed s p d (c ∷ l)) (claimed s p (step s d c .1) l)
     (x .no-note j) (y .no-note i) (x .no-tie (step s e (through m c) .0) m) (claimed-quiet s p d c l x) (y .same-loose) r o
 
 -- an add of the priority, on both sides
 module _ (s : Setup) (p : ℕ) (j : List ℕ) (d : Desk) (i : List ℕ) (e : Desk) (m : List (ℕ × ℕ)) (l : List Call) (q : Request) (a : eqb (q .priority) p ≡ true) where
   abbrev After : Call → Call → Result → Result → Type 0
-  After c c′ r r′ = RelO s p (noted p c (r .0) j) (r .1) (noted p c′ (r′ .0) i) (r′ .1) (tie (r .0) (r′ .0) m) (Then s p l r)
+  After c c′ r r′ = RelO s p (got-after p c (r .0) j) (r .1) (got-after p c′ (r′ .0) i) (r′ .1) (tie (r .0) (r′ .0) m) (Then s p l r)
 
   abbrev AfterRel : Call → Call → Result → Result → Type 0
-  AfterRel c c′ r r′ = Rel s p (noted p c (r .0) j) (r .1) (noted p c′ (r′ .0) i) (r′ .1)
+  AfterRel c c′ r r′ = Rel s p (got-after p c (r .0) j) (r .1) (got-after p c′ (r′ .0) i) (r′ .1)
 
   after-add : (named : Option ℕ) (x y : Option Refusal) → add-refusal s d named q ≡ x
       → accepted (unless x d (add-result s d named q) .0) ≡ accepted (unless y e (add-result s e (maybe none (λ t. some (look m t)) named) q) .0)
@@ -537,8 +537,8 @@ module _ (s : Setup) (p : ℕ) (w : 16 ≤ s .width) where
   -- after a call of the priority, made here and there
   after-shown : (j : List ℕ) (d : Desk) (i : List ℕ) (e : Desk) (m : List (ℕ × ℕ)) (l : List Call) (c : Call)
       → RelO s p j d i e m (claimed s p d (c ∷ l)) → about p d c ≡ true → accepted (step s d c .0) ≡ accepted (step s e (through m c) .0)
-      → Rel s p (noted p c (step s d c .0) j) (step s d c .1) (noted p (through m c) (step s e (through m c) .0) i) (step s e (through m c) .1)
-      → RelO s p (noted p c (step s d c .0) j) (step s d c .1) (noted p (through m c) (step s e (through m c) .0) i) (step s e (through m c) .1)
+      → Rel s p (got-after p c (step s d c .0) j) (step s d c .1) (got-after p (through m c) (step s e (through m c) .0) i) (step s e (through m c) .1)
+      → RelO s p (got-after p c (step s d c .0) j) (step s d c .1) (got-after p (through m c) (step s e (through m c) .0) i) (step s e (through m c) .1)
       (tie (step s d c .0) (step s e (through m c) .0) m) (claimed s p (step s d c .1) l)
   unfolding step claims about
   after-shown j d i e m l (Call.add named q) o a v r =
@@ -553,8 +553,8 @@ module _ (s : Setup) (p : ℕ) (w : 16 ≤ s .width) where
   after-shown j d i e m l (Call.run-file n now) o a v r = after-quiet s p j d i e m l (Call.run-file n now) refl o r
 
   -- a call there that is not about the priority, and admits nothing, does not show
-  rel-there : (j : List ℕ) (d : Desk) (i : List ℕ) (e : Desk) (c : Call) → Rel s p j d i e → about p e c ≡ false → ((n : ℕ) → noted n c (step s e c .0) [] ≡ [])
-      → Rel s p j d (noted p c (step s e c .0) i) (step s e c .1)
+  rel-there : (j : List ℕ) (d : Desk) (i : List ℕ) (e : Desk) (c : Call) → Rel s p j d i e → about p e c ≡ false → ((n : ℕ) → got-after n c (step s e c .0) [] ≡ [])
+      → Rel s p j d (got-after p c (step s e c .0) i) (step s e c .1)
   rel-there j d i e c r a k = record {
     unique = r .unique;
     known = r .known;
@@ -600,7 +600,7 @@ module _ (s : Setup) (p : ℕ) (w : 16 ≤ s .width) where
 
   -- after a call that is made there, and is not about the priority
   abbrev There : List ℕ → Desk → List ℕ → Desk → List (ℕ × ℕ) → List Call → Call → Type 0
-  There j d i e m l c = (RelO s p (noted p c (step s d c .0) j) (step s d c .1) (noted p (through m c) (step s e (through m c) .0) i) (step s e (through m c) .1)
+  There j d i e m l c = (RelO s p (got-after p c (step s d c .0) j) (step s d c .1) (got-after p (through m c) (step s e (through m c) .0) i) (step s e (through m c) .1)
       (tie (step s d c .0) (step s e (through m c) .0) m) (claimed s p (step s d c .1) l))
       × (about p e (through m c) ≡ false) × (turned-away p (through m c) (step s e (through m c) .0) ≡ false)
 
@@ -626,10 +626,10 @@ module _ (s : Setup) (p : ℕ) (w : 16 ≤ s .width) where
   -- a call that asks after a reservation of the priority, made here and there
   asked-both : (j : List ℕ) (d : Desk) (i : List ℕ) (e : Desk) (m : List (ℕ × ℕ)) (l : List Call) (c : Call) → quiet c ≡ true
       → RelO s p j d i e m (claimed s p d (c ∷ l)) → about p d c ≡ false → about p e (through m c) ≡ false
-      → RelO s p (noted p c (step s d c .0) j) (step s d c .1) (noted p (through m c) (step s e (through m c) .0) i) (step s e (through m c) .1)
+      → RelO s p (got-after p c (step s d c .0) j) (step s d c .1) (got-after p (through m c) (step s e (through m c) .0) i) (step s e (through m c) .1)
       (tie (step s d c .0) (step s e (through m c) .0) m) (claimed s p (step s d c .1) l)
   asked-both j d i e m l c k o a b = after-quiet s p j d i e m l c k o
-      (rel-there (noted p c (step s d c .0) j) (step s d c .1) i e (through m c) (rel-hidden s p w j d i e c (o .rel) a) b (λ n. quieted s n e (through m c) (quiet-through m c k) .no-note []))
+      (rel-there (got-after p c (step s d c .0) j) (step s d c .1) i e (through m c) (rel-hidden s p w j d i e c (o .rel) a) b (λ n. quieted s n e (through m c) (quiet-through m c k) .no-note []))
 
   -- a question after a reservation of the priority is about none of its objects there
   unasked : (j : List ℕ) (d : Desk) (i : List ℕ) (e : Desk) (m : List (ℕ × ℕ)) (l : List Call) (q : Question)
@@ -665,9 +665,9 @@ module _ (s : Setup) (p : ℕ) (w : 16 ≤ s .width) where
   -- any other call is made here only
   after-other : (j : List ℕ) (d : Desk) (i : List ℕ) (e : Desk) (m : List (ℕ × ℕ)) (l : List Call) (c : Call)
       → RelO s p j d i e m (claimed s p d (c ∷ l)) → about p d c ≡ false → reserves s p d c l ≡ false
-      → noted p c (step s d c .0) j ≡ j
-      → RelO s p (noted p c (step s d c .0) j) (step s d c .1) i e m (claimed s p (step s d c .1) l)
-  after-other j d i e m l c o a h n = relO-move s p j (noted p c (step s d c .0) j) d (step s d c .1) i i e e m m (claimed s p d (c ∷ l)) (claimed s p (step s d c .1) l)
+      → got-after p c (step s d c .0) j ≡ j
+      → RelO s p (got-after p c (step s d c .0) j) (step s d c .1) i e m (claimed s p (step s d c .1) l)
+  after-other j d i e m l c o a h n = relO-move s p j (got-after p c (step s d c .0) j) d (step s d c .1) i i e e m m (claimed s p d (c ∷ l)) (claimed s p (step s d c .1) l)
       n refl refl (claimed-other s p d c l (o .rel .unique) a h) refl (rel-hidden s p w j d i e c (o .rel) a) o
 
   abbrev Same : List ℕ → Desk → List ℕ → Desk → List Call → List Call → Type 0
@@ -683,8 +683,8 @@ module _ (s : Setup) (p : ℕ) (w : 16 ≤ s .width) where
       let c′ = through m c in
       let d′ = step s d c .1 in
       let e′ = step s e c′ .1 in
-      let j′ = noted p c (step s d c .0) j in
-      let i′ = noted p c′ (step s e c′ .0) i in
+      let j′ = got-after p c (step s d c .0) j in
+      let i′ = got-after p c′ (step s e c′ .0) i in
       let m′ = tie (step s d c .0) (step s e c′ .0) m in
       let there = only s p m′ d′ e′ l in
       (elim (about p d c) as (λ b. about p d c ≡ b

@@ -84,8 +84,8 @@ accepted a = not (given (refusal-in a))
 -- ---- objects are matched by the call that admitted them, whatever their numbers
 
 -- the numbers that the priority's admissions got, latest first, after one more call
-abbrev pub noted : ℕ → Call → Answer → List ℕ → List ℕ
-noted p c a j = maybe j (λ x. maybe j (λ t. if eqb (x .1 .priority) p then t ∷ j else j) (number-in a)) (adding c)
+abbrev pub got-after : ℕ → Call → Answer → List ℕ → List ℕ
+got-after p c a j = maybe j (λ x. maybe j (λ t. if eqb (x .1 .priority) p then t ∷ j else j) (number-in a)) (adding c)
 
 -- which admission last got the number, counted from 1, or 0 for none: what a number stands for
 abbrev pub key : List ℕ → ℕ → ℕ
@@ -153,7 +153,7 @@ module _ (s : Setup) (p : ℕ) where
   calls j d [] = []
   calls j d (c ∷ l) =
       let r = step s d c in
-      let rest = calls (noted p c (r .0) j) (r .1) l in
+      let rest = calls (got-after p c (r .0) j) (r .1) l in
       if about p d c then call-by (key j) c ∷ rest else rest
 
   -- their answers
@@ -161,7 +161,7 @@ module _ (s : Setup) (p : ℕ) where
   answers j d [] = []
   answers j d (c ∷ l) =
       let r = step s d c in
-      let j′ = noted p c (r .0) j in
+      let j′ = got-after p c (r .0) j in
       let rest = answers j′ (r .1) l in
       if about p d c then answer-by (key j′) (r .0) ∷ rest else rest
 
@@ -285,7 +285,7 @@ abbrev pub OwnNumbers : Setup → ℕ → List ℕ → Desk → List Call → Ty
 OwnNumbers s p j d [] = Unit {0}
 OwnNumbers s p j d (c ∷ l) =
     let r = step s d c in
-    let j′ = noted p c (r .0) j in
+    let j′ = got-after p c (r .0) j in
     (about p d c ≡ true → NumberOf j′ (r .0)) × OwnNumbers s p j′ (r .1) l
 
 -- ---- demand 3, whole

@@ -21,7 +21,7 @@ use Rattle.definition.specs.Desk.{Request, Touch, Question, Call, Answer
 
 -- l bytes in symbols of e and blocks of b: large, small, I, N
 unfoldable pub parts : ℕ → ℕ → ℕ → List ℕ
-parts l e b = let p = blocks-of (record { e = e; b = b }) l in p .large ∷ p .small ∷ p .bigs ∷ p .blocks ∷ []
+parts l e b = let p = blocks-of (record { e = e; b = b }) l in p .large ∷ p .small ∷ p .«nb_a_large» ∷ p .blocks ∷ []
 
 -- the length of block k
 unfoldable pub len : ℕ → ℕ → ℕ → ℕ → Option ℕ

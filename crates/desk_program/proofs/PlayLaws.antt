@@ -11,7 +11,7 @@ use mir.Val.{hasKey}
 use types.Run.{OneOf, miss}
 use denote.Enum.Declared.{tagOf}
 use Rattle.definition.specs.Desk.{Call}
-use Rattle.sender.specs.SenderCalls.{Valid}
+use Rattle.sender.specs.SenderCalls.{ValidSender}
 use Rattle.sender.specs.declared.sender.Sender.{Sender}
 use Rattle.sender.specs.declared.setup.Setup.{Setup}
 use Rattle.desk_program.specs.Commands.{setup-named}
@@ -37,7 +37,7 @@ calls-of {c} {k} {s} {r} e p =
       nowhere = λ f. let g : none ≡ some k = sym (ap call-of f) ∙ e in clash (cc);
     }
 
-pub calls-none : {c : Command} {s : Sender} {r : Desk} (o : Bool) (y : Reply) → call-of c ≡ none → Valid s → r ≡ reply-with o s y →
+pub calls-none : {c : Command} {s : Sender} {r : Desk} (o : Bool) (y : Reply) → call-of c ≡ none → ValidSender s → r ≡ reply-with o s y →
     (c ≡ CommandV.AddNowhere → r ≡ reply-with true s (ReplyV.Refused Because.NoPriority)) → Calls c s r
 calls-none {c} {s} {r} o y e v h w = record { valid = rw h v; played = λ l f. clash (cc); nowhere = w }
 
@@ -64,17 +64,17 @@ asks-none (CommandV.RunFdt clock draft) h = absurd (miss others 14 tt h)
 asks-none (CommandV.Run i clock) h = absurd (miss others 15 tt h)
 asks-none (CommandV.Partition l e b) h = refl
 asks-none (CommandV.BlockLength l e b k) h = refl
-asks-none (CommandV.RawLength large small bigs l e k) h = refl
+asks-none (CommandV.RawLength large small larges l e k) h = refl
 asks-none (CommandV.Drain l e b w) h = refl
 asks-none (CommandV.WriteRecord r room) h = refl
 asks-none (CommandV.ReadRecord a) h = refl
 
 -- a sender that stays as it is
-pub still : {s : Sender} {r : Desk} (o : Bool) (y : Reply) → Valid s → r ≡ reply-with o s y → Valid (r .sender)
+pub still : {s : Sender} {r : Desk} (o : Bool) (y : Reply) → ValidSender s → r ≡ reply-with o s y → ValidSender (r .sender)
 still o y v h = rw h v
 
 -- a command that asks for no call, a call of an open desk, and any of one that is not
-pub answers-none : {c : Command} {d r : Desk} → call-of c ≡ none → (c ≡ CommandV.AddNowhere → ⊥) → Valid (r .sender) → Answers c d r
+pub answers-none : {c : Command} {d r : Desk} → call-of c ≡ none → (c ≡ CommandV.AddNowhere → ⊥) → ValidSender (r .sender) → Answers c d r
 answers-none e n v =
     record {
       valid = v;
@@ -92,7 +92,7 @@ answers-open t p =
       nowhere = λ f. rw t (p .nowhere f);
     }
 
-pub answers-shut : {c : Command} {d r : Desk} → d .«open» ≡ false → Valid (d .sender) → r ≡ reply-with false (d .sender) ReplyV.Error → Answers c d r
+pub answers-shut : {c : Command} {d r : Desk} → d .«open» ≡ false → ValidSender (d .sender) → r ≡ reply-with false (d .sender) ReplyV.Error → Answers c d r
 answers-shut t v h =
     record {
       valid = rw h v;
@@ -131,7 +131,7 @@ not-alone (CommandV.RunFdt clock draft) h = refl
 not-alone (CommandV.Run i clock) h = refl
 not-alone (CommandV.Partition l e b) h = absurd (miss calls 16 tt h)
 not-alone (CommandV.BlockLength l e b k) h = absurd (miss calls 17 tt h)
-not-alone (CommandV.RawLength large small bigs l e k) h = absurd (miss calls 18 tt h)
+not-alone (CommandV.RawLength large small larges l e k) h = absurd (miss calls 18 tt h)
 not-alone (CommandV.Drain l e b w) h = absurd (miss calls 19 tt h)
 not-alone (CommandV.WriteRecord r room) h = absurd (miss calls 20 tt h)
 not-alone (CommandV.ReadRecord a) h = absurd (miss calls 21 tt h)

@@ -13,7 +13,7 @@ use Rattle.lifecycle.specs.declared.fdt.Named.{Named}
 use Rattle.lifecycle.specs.declared.filedesc.Time.{Time}
 use Rattle.lifecycle.specs.declared.parts.Part.{Part}
 use Rattle.definition.specs.Desk as Def
-use Rattle.sender.specs.SenderCalls.{desk-of, Valid, Kept, named-said, object-said}
+use Rattle.sender.specs.SenderCalls.{desk-of, ValidSender, Kept, named-said, object-said}
 use Rattle.sender.specs.SetupCalls.{setup-said}
 use Rattle.sender.specs.declared.sender.Object.{Object}
 use Rattle.sender.specs.declared.sender.Sender.{Sender}
@@ -87,7 +87,7 @@ call-of (CommandV.RunFdt clock draft) = some (asks-run-fdt clock draft)
 call-of (CommandV.Run i clock) = some (asks-run i clock)
 call-of (CommandV.Partition l e b) = none
 call-of (CommandV.BlockLength l e b k) = none
-call-of (CommandV.RawLength large small bigs l e k) = none
+call-of (CommandV.RawLength large small larges l e k) = none
 call-of (CommandV.Drain l e b w) = none
 call-of (CommandV.WriteRecord r room) = none
 call-of (CommandV.ReadRecord a) = none
@@ -97,7 +97,7 @@ reply-with o s y = record { «open» = o; reply = y; sender = s }
 
 -- of a command that needs the sender
 pub record Calls (c : Command) (s : Sender) (r : Desk) : Type 0 where
-  pub valid : Valid (r .sender)
+  pub valid : ValidSender (r .sender)
   pub played : (k : Def.Call) → call-of c ≡ some k → PlaysCall k s r
   -- no session has a priority above 32 bits
   pub nowhere : c ≡ CommandV.AddNowhere → r ≡ reply-with true s (ReplyV.Refused Because.NoPriority)
@@ -106,17 +106,17 @@ pub record Calls (c : Command) (s : Sender) (r : Desk) : Type 0 where
 pub record SetsUp (z : Setup) (r : Desk) : Type 0 where
   pub says : Says (set-up-said (r .«open»)) (r .reply)
   pub means : Def.set-up (setup-said z) ≡ (if r .«open» then (Def.Answer.done, some (desk-of (r .sender))) else (Def.Answer.refused Because.SetUp, none))
-  pub valid : Valid (r .sender)
+  pub valid : ValidSender (r .sender)
 
 -- no set-up is accepted
 pub record Shut (r : Desk) : Type 0 where
   pub closed : r .«open» ≡ false
   pub says : Says (Def.Answer.refused Because.SetUp) (r .reply)
-  pub valid : Valid (r .sender)
+  pub valid : ValidSender (r .sender)
 
 -- of any command: a call of an open desk is played; where no set-up was accepted it is an error, and nothing changes
 pub record Answers (c : Command) (d r : Desk) : Type 0 where
-  pub valid : Valid (r .sender)
+  pub valid : ValidSender (r .sender)
   pub played : (k : Def.Call) → call-of c ≡ some k → d .«open» ≡ true → PlaysCall k (d .sender) r
   pub shut : (k : Def.Call) → call-of c ≡ some k → d .«open» ≡ false → r ≡ reply-with false (d .sender) ReplyV.Error
   pub nowhere : c ≡ CommandV.AddNowhere → r ≡ (if d .«open» then reply-with true (d .sender) (ReplyV.Refused Because.NoPriority) else reply-with false (d .sender) ReplyV.Error)
@@ -140,8 +140,8 @@ alone (CommandV.Transfers t) = none
 alone (CommandV.RunFdt clock draft) = none
 alone (CommandV.Run i clock) = none
 alone (CommandV.Partition l e b) = some (ReplyV.Cut (partition-of b l e))
-alone (CommandV.BlockLength l e b k) = let p = partition-of b l e in some (length-shown (block-length (sizes-given (p .large) (p .small) (p .bigs)) l e k))
-alone (CommandV.RawLength large small bigs l e k) = some (length-shown (block-length (sizes-given large small bigs) l e k))
+alone (CommandV.BlockLength l e b k) = let p = partition-of b l e in some (length-shown (block-length (sizes-given (p .large) (p .small) (p .«nb_a_large»)) l e k))
+alone (CommandV.RawLength large small larges l e k) = some (length-shown (block-length (sizes-given large small larges) l e k))
 alone (CommandV.Drain l e b w) = some (ReplyV.Drained l e b w)
 alone (CommandV.WriteRecord r room) = some (record-shown r room)
 alone (CommandV.ReadRecord a) = some (reading-shown a)

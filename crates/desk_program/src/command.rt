@@ -72,7 +72,7 @@ pub enum Command {
     RawLength {
         large: u64,
         small: u64,
-        bigs: u64,
+        nb_a_large: u64,
         l: u64,
         e: u64,
         sbn: Sbn,
@@ -308,7 +308,7 @@ fn of_six(name: &[u8], a: [u64; 6]) -> Command {
         return Command::RawLength {
             large: a[0],
             small: a[1],
-            bigs: a[2],
+            nb_a_large: a[2],
             l: a[3],
             e: a[4],
             sbn: Sbn(last as u32),

@@ -1,7 +1,7 @@
 // The commands of a script, played on one sender.
 ghost use mathlib.Core.Path.{_≡_};
 ghost use Rattle.sizes.specs.Partition.{partition-of, block-length, sizes-given};
-ghost use Rattle.sender.specs.SenderCalls.{Valid};
+ghost use Rattle.sender.specs.SenderCalls.{ValidSender};
 ghost use Rattle.desk_program.specs.Replies.{length-shown};
 ghost use Rattle.desk_program.specs.Plays.{PlaysCall, Calls, SetsUp, Shut, Answers, SetUpAnswers, Stays, reply-with, asks-reserve, asks-release, asks-add, asks-remove, asks-trigger, asks-listed, asks-transfers, asks-complete, asks-publish, asks-run-fdt, asks-run};
 use crate::command::Command;
@@ -27,7 +27,7 @@ pub struct Desk {
 }
 
 fn reserve(mut s: Sender) -> Desk
-    requires { ⌜ Valid s ⌝ }
+    requires { ⌜ ValidSender s ⌝ }
     ensures { λ r. ⌜ PlaysCall asks-reserve s r ⌝ }
 {
     let r = s.reserve();
@@ -41,7 +41,7 @@ fn reserve(mut s: Sender) -> Desk
 }
 
 fn release(mut s: Sender, toi: u64) -> Desk
-    requires { ⌜ Valid s ⌝ }
+    requires { ⌜ ValidSender s ⌝ }
     ensures { λ r. ⌜ PlaysCall (asks-release toi) s r ⌝ }
 {
     let r = s.release(toi);
@@ -55,7 +55,7 @@ fn release(mut s: Sender, toi: u64) -> Desk
 }
 
 fn add(mut s: Sender, o: Object, named: Named) -> Desk
-    requires { ⌜ Valid s ⌝ }
+    requires { ⌜ ValidSender s ⌝ }
     ensures { λ r. ⌜ PlaysCall (asks-add o named) s r ⌝ }
 {
     let r = s.add(o, named);
@@ -69,7 +69,7 @@ fn add(mut s: Sender, o: Object, named: Named) -> Desk
 }
 
 fn remove(mut s: Sender, toi: u64) -> Desk
-    requires { ⌜ Valid s ⌝ }
+    requires { ⌜ ValidSender s ⌝ }
     ensures { λ r. ⌜ PlaysCall (asks-remove toi) s r ⌝ }
 {
     let r = s.remove(toi);
@@ -82,7 +82,7 @@ fn remove(mut s: Sender, toi: u64) -> Desk
 }
 
 fn trigger(mut s: Sender, toi: u64, start: Time) -> Desk
-    requires { ⌜ Valid s ⌝ }
+    requires { ⌜ ValidSender s ⌝ }
     ensures { λ r. ⌜ PlaysCall (asks-trigger toi start) s r ⌝ }
 {
     let r = s.trigger(toi, start);
@@ -95,7 +95,7 @@ fn trigger(mut s: Sender, toi: u64, start: Time) -> Desk
 }
 
 fn listed(s: Sender, toi: u64) -> Desk
-    requires { ⌜ Valid s ⌝ }
+    requires { ⌜ ValidSender s ⌝ }
     ensures { λ r. ⌜ PlaysCall (asks-listed toi) s r ⌝ }
 {
     Desk {
@@ -106,7 +106,7 @@ fn listed(s: Sender, toi: u64) -> Desk
 }
 
 fn transfers(s: Sender, toi: u64) -> Desk
-    requires { ⌜ Valid s ⌝ }
+    requires { ⌜ ValidSender s ⌝ }
     ensures { λ r. ⌜ PlaysCall (asks-transfers toi) s r ⌝ }
 {
     Desk {
@@ -117,7 +117,7 @@ fn transfers(s: Sender, toi: u64) -> Desk
 }
 
 fn complete(s: Sender) -> Desk
-    requires { ⌜ Valid s ⌝ }
+    requires { ⌜ ValidSender s ⌝ }
     ensures { λ r. ⌜ PlaysCall asks-complete s r ⌝ }
 {
     Desk {
@@ -128,7 +128,7 @@ fn complete(s: Sender) -> Desk
 }
 
 fn publish(mut s: Sender, clock: u64, part: Part) -> Desk
-    requires { ⌜ Valid s ⌝ }
+    requires { ⌜ ValidSender s ⌝ }
     ensures { λ r. ⌜ PlaysCall (asks-publish clock part) s r ⌝ }
 {
     let r = s.publish(clock, part);
@@ -142,7 +142,7 @@ fn publish(mut s: Sender, clock: u64, part: Part) -> Desk
 }
 
 fn run_fdt(mut s: Sender, clock: u64, draft: Draft) -> Desk
-    requires { ⌜ Valid s ⌝ }
+    requires { ⌜ ValidSender s ⌝ }
     ensures { λ r. ⌜ PlaysCall (asks-run-fdt clock draft) s r ⌝ }
 {
     let r = s.run_fdt(clock, draft);
@@ -156,7 +156,7 @@ fn run_fdt(mut s: Sender, clock: u64, draft: Draft) -> Desk
 }
 
 fn run(mut s: Sender, i: u64, clock: u64) -> Desk
-    requires { ⌜ Valid s ⌝ }
+    requires { ⌜ ValidSender s ⌝ }
     ensures { λ r. ⌜ PlaysCall (asks-run i clock) s r ⌝ }
 {
     let r = s.run(i, clock);
@@ -171,7 +171,7 @@ fn run(mut s: Sender, i: u64, clock: u64) -> Desk
 
 // A command that needs the sender.
 fn call(s: Sender, c: Command) -> Desk
-    requires { ⌜ Valid s ⌝ }
+    requires { ⌜ ValidSender s ⌝ }
     ensures { λ r. ⌜ Calls c s r ⌝ }
 {
     match c {
@@ -204,7 +204,7 @@ fn replied(open: bool, s: Sender, reply: Reply) -> Desk
 
 // A call is an error where no set-up was accepted.
 fn called(d: Desk, c: Command) -> Desk
-    requires { ⌜ Valid (d .sender) ⌝ }
+    requires { ⌜ ValidSender (d .sender) ⌝ }
     ensures { λ r. ⌜ Answers c d r ⌝ }
 {
     let s = d.sender;
@@ -259,7 +259,7 @@ fn no_sessions() -> Setup {
 
 // The desk after a command, with the reply to it.
 pub(crate) fn play(d: Desk, c: Command) -> Desk
-    requires { ⌜ Valid (d .sender) ⌝ }
+    requires { ⌜ ValidSender (d .sender) ⌝ }
     ensures { λ r. ⌜ Answers c d r × SetUpAnswers c d r × Stays c d r ⌝ }
 {
     let s = d.sender;
@@ -273,11 +273,11 @@ pub(crate) fn play(d: Desk, c: Command) -> Desk
         Command::RawLength {
             large,
             small,
-            bigs,
+            nb_a_large,
             l,
             e,
             sbn,
-        } => replied(d.open, s, raw_length(large, small, bigs, l, e, sbn)),
+        } => replied(d.open, s, raw_length(large, small, nb_a_large, l, e, sbn)),
         Command::Drain { l, e, b, w } => replied(d.open, s, Reply::Drained { l, e, b, w }),
         Command::WriteRecord { record, room } => {
             replied(d.open, s, crate::reply::record_reply(record, room))
@@ -294,15 +294,15 @@ fn partition(l: u64, e: u64, b: u64) -> Reply
 }
 
 fn block_length(l: u64, e: u64, b: u64, sbn: Sbn) -> Reply
-    ensures { λ r. ⌜ r ≡ length-shown (block-length (sizes-given (partition-of b l e .large) (partition-of b l e .small) (partition-of b l e .bigs)) l e sbn) ⌝ }
+    ensures { λ r. ⌜ r ≡ length-shown (block-length (sizes-given (partition-of b l e .large) (partition-of b l e .small) (partition-of b l e .«nb_a_large»)) l e sbn) ⌝ }
 {
     let p = sizes::partition::block_partitioning(b, l, e);
-    raw_length(p.large, p.small, p.bigs, l, e, sbn)
+    raw_length(p.large, p.small, p.nb_a_large, l, e, sbn)
 }
 
-fn raw_length(large: u64, small: u64, bigs: u64, l: u64, e: u64, sbn: Sbn) -> Reply
-    ensures { λ r. ⌜ r ≡ length-shown (block-length (sizes-given large small bigs) l e sbn) ⌝ }
+fn raw_length(large: u64, small: u64, nb_a_large: u64, l: u64, e: u64, sbn: Sbn) -> Reply
+    ensures { λ r. ⌜ r ≡ length-shown (block-length (sizes-given large small «nb_a_large») l e sbn) ⌝ }
 {
-    let n = sizes::partition::block_length(large, small, bigs, l, e, sbn);
+    let n = sizes::partition::block_length(large, small, nb_a_large, l, e, sbn);
     crate::reply::length_reply(n)
 }

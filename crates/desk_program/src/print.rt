@@ -97,7 +97,7 @@ fn put_taken(out: &mut [u8], at: usize, taken: bool) -> usize {
 fn put_partition(out: &mut [u8], p: Partition) -> usize {
     let a = text::put_number(out, 0, p.large);
     let b = text::put_next(out, a, p.small);
-    let c = text::put_next(out, b, p.bigs);
+    let c = text::put_next(out, b, p.nb_a_large);
     text::put_next(out, c, p.blocks)
 }
 

@@ -18,7 +18,7 @@ use Rattle.sizes.proofs.Lengths.{before-large, before-small}
 use Rattle.lifecycle.specs.Setup.{bad-blocks}
 use Rattle.lifecycle.proofs.FdtFacts.{if-on}
 use Rattle.lifecycle.proofs.SetupLaws.{in-range, sizes-sound, blocks-counted}
-use Rattle.sender.specs.EncoderCalls.{Sound, Valid, offset-of, new-of}
+use Rattle.sender.specs.EncoderCalls.{Sound, ValidEncoder, offset-of, new-of}
 use Rattle.sender.specs.EncoderPromises.{Shown, named}
 use Rattle.drain_program.specs.DrainCalls.{drain-refuses}
 use Rattle.sender.specs.declared.blockencoder.Content.{Content}
@@ -29,7 +29,7 @@ use Rattle.sender.proofs.Offsets.{told, cut-up, offset-early}
 -- ---- every block has the small count, and each large one a symbol more
 
 abbrev OneMore : Partition → Type 0
-OneMore p = (p .large ≡ p .small + 1) ⊎ (p .bigs ≡ 0)
+OneMore p = (p .large ≡ p .small + 1) ⊎ (p .«nb_a_large» ≡ 0)
 
 split-more : (t n : ℕ) → 1 ≤ n → OneMore (split t n)
 unfolding split
@@ -55,22 +55,22 @@ module _ (c : Content) (s : Sound c) where
   more = subst OneMore (sym (s .cut)) (one-more-each (c .sizes .b) (c .part .size) (c .sizes .e))
 
   -- a large block begins after as many symbols more as there are blocks before it
-  pub in-large-ones : (k : Sbn) → k .0 < p .bigs → first-symbol p k ≡ k .0 * p .small + k .0
+  pub in-large-ones : (k : Sbn) → k .0 < p .«nb_a_large» → first-symbol p k ≡ k .0 * p .small + k .0
   in-large-ones k h = before-large p k h ∙ ⊎-elim
       (λ (e : p .large ≡ p .small + 1). ap (λ n. k .0 * n) e ∙ mul-add (k .0) (p .small) 1 ∙ ap (λ n. k .0 * p .small + n) (mul-one (k .0)))
-      (λ (e : p .bigs ≡ 0). absurd (omega arith))
+      (λ (e : p .«nb_a_large» ≡ 0). absurd (omega arith))
       more
 
   -- a small one after as many more as there are large ones
-  pub in-small-ones : (k : Sbn) → p .bigs ≤ k .0 → first-symbol p k ≡ k .0 * p .small + p .bigs
+  pub in-small-ones : (k : Sbn) → p .«nb_a_large» ≤ k .0 → first-symbol p k ≡ k .0 * p .small + p .«nb_a_large»
   in-small-ones k h = before-small p k h ∙ ⊎-elim
       (λ (e : p .large ≡ p .small + 1).
-      let z : p .bigs + (k .0 - p .bigs) ≡ k .0 = omega arith in
-      let a = ap (λ n. p .bigs * n) e ∙ mul-add (p .bigs) (p .small) 1 ∙ ap (λ n. p .bigs * p .small + n) (mul-one (p .bigs)) in
-      let d = sym (add-mul (p .bigs) (k .0 - p .bigs) (p .small)) ∙ ap (λ n. n * p .small) z in
+      let z : p .«nb_a_large» + (k .0 - p .«nb_a_large») ≡ k .0 = omega arith in
+      let a = ap (λ n. p .«nb_a_large» * n) e ∙ mul-add (p .«nb_a_large») (p .small) 1 ∙ ap (λ n. p .«nb_a_large» * p .small + n) (mul-one (p .«nb_a_large»)) in
+      let d = sym (add-mul (p .«nb_a_large») (k .0 - p .«nb_a_large») (p .small)) ∙ ap (λ n. n * p .small) z in
       omega arith)
-      (λ (e : p .bigs ≡ 0).
-      let z : k .0 - p .bigs ≡ k .0 = omega arith in
+      (λ (e : p .«nb_a_large» ≡ 0).
+      let z : k .0 - p .«nb_a_large» ≡ k .0 = omega arith in
       let a = ap (λ n. n * p .large) e ∙ zero-mul (p .large) in
       let d = ap (λ n. n * p .small) z in
       omega arith)
@@ -128,7 +128,7 @@ module _ (l e b w : ℕ) where
     by-blocks f = rest ∙ ap (λ t. t || bad-blocks (record { e = e; b = b }) l) (le-ltb longest-store l f)
 
   -- what is not refused is an encoder's
-  pub begun-valid : drain-refuses l e b w ≡ false → Valid (new-of (record { start = 0; size = l }) (record { e = e; b = b }) w true)
+  pub begun-valid : drain-refuses l e b w ≡ false → ValidEncoder (new-of (record { start = 0; size = l }) (record { e = e; b = b }) w true)
   unfolding drain-refuses new-of
   begun-valid h =
       let a = not (within 1 largest-window w) in

@@ -7,7 +7,7 @@ use Rattle.sizes.specs.Words.{if_then_else_, maybe, within}
 use Rattle.sizes.specs.Limits.{largest-window, longest-store}
 use Rattle.lifecycle.specs.Setup.{bad-blocks}
 use Rattle.definition.specs.Encoder as Def
-use Rattle.sender.specs.EncoderCalls.{Valid, encoder-of, new-of, read-of, read-said}
+use Rattle.sender.specs.EncoderCalls.{ValidEncoder, encoder-of, new-of, read-of, read-said}
 use Rattle.sender.specs.declared.blockencoder.Content.{Content}
 use Rattle.sender.specs.declared.blockencoder.BlockEncoder.{BlockEncoder}
 use Rattle.drain_program.specs.declared.drain.Line.{Line}
@@ -27,7 +27,7 @@ drain-begun l e b w =
 
 pub record DrainBegins (l e b w : ℕ) (r : Begun) : Type 0 where
   pub exact : r ≡ drain-begun l e b w
-  pub valid : Valid (r .encoder)
+  pub valid : ValidEncoder (r .encoder)
 
 -- block, symbol, the block's symbols, where the bytes begin in the object, how many they are, close
 abbrev pub packet-line : Content → Def.Symbol → Line
@@ -39,4 +39,4 @@ pub record Turns (x : BlockEncoder) (r : Turned) : Type 0 where
   pub next : encoder-of (r .encoder) ≡ read-said (false) x .1
   pub content : r .encoder .content ≡ x .content
   pub width : r .encoder .width ≡ x .width
-  pub valid : Valid (r .encoder)
+  pub valid : ValidEncoder (r .encoder)

@@ -3,7 +3,7 @@ ghost use mathlib.Core.Path.{_≡_};
 ghost use Prim.Native.Nat.{_*_, _<_};
 ghost use Rattle.sizes.specs.Limits.{wide};
 ghost use Rattle.sizes.specs.Partition.{first-symbol, block-start};
-ghost use Rattle.sender.specs.EncoderCalls.{Sound, Valid, symbol-said};
+ghost use Rattle.sender.specs.EncoderCalls.{Sound, ValidEncoder, symbol-said};
 ghost use Rattle.sender.specs.EncoderPromises.{Shown};
 ghost use Rattle.drain_program.specs.DrainCalls.{drain-refuses, packet-line, DrainBegins, Turns};
 use lifecycle::fdt::are_bad_blocks;
@@ -82,10 +82,10 @@ fn block_start(c: Content, k: Sbn) -> u64
     let p = c.partition;
     let n = k.0 as u64;
     let e = c.sizes.e;
-    if n < p.bigs {
+    if n < p.nb_a_large {
         return (n * p.small + n) * e;
     }
-    (n * p.small + p.bigs) * e
+    (n * p.small + p.nb_a_large) * e
 }
 
 // The line of a packet.
@@ -109,7 +109,7 @@ fn line_for(c: Content, s: Symbol) -> Line
 
 // The next line.
 pub fn turn(x: BlockEncoder) -> Turned
-    requires { ⌜ Valid x ⌝ }
+    requires { ⌜ ValidEncoder x ⌝ }
     ensures { λ r. ⌜ Turns x r ⌝ }
 {
     let content = x.content;

@@ -5,7 +5,7 @@ mod drain;
 
 ghost use Prim.Native.Nat.{_+_, _≤_};
 ghost use lib.ListN.{length};
-ghost use Rattle.sender.specs.EncoderCalls.{Valid};
+ghost use Rattle.sender.specs.EncoderCalls.{ValidEncoder};
 ghost use Rattle.text.specs.Put.{Appended};
 ghost use Rattle.drain_program.specs.Lines.{field, line-text, most-field, most-line};
 use crate::drain::Line;
@@ -69,7 +69,7 @@ fn read_four(line: &[u8]) -> Four {
 // Writes the lines of a transfer. The turns are counted down, from a number that no run uses up, since a proved loop
 // has to end.
 fn send(x: BlockEncoder)
-    requires { ⌜ Valid x ⌝ }
+    requires { ⌜ ValidEncoder x ⌝ }
 {
     let mut space = io::large_buffer();
     let out: &mut [u8] = &mut space;

@@ -14,8 +14,8 @@ use Rattle.sender.specs.declared.blockencoder.Read.{Read}
 use Rattle.sender.specs.declared.blockencoder.Symbol.{Symbol}
 use Rattle.sender.specs.declared.blockencoder.Emitted.the-variants as EmittedV
 use Rattle.sender.specs.declared.sendersession.SenderSession.{SenderSession}
-use Rattle.sender.specs.declared.sendersession.Service.{Service}
-use Rattle.sender.specs.declared.sendersession.Served.the-variants as ServedV
+use Rattle.sender.specs.declared.sendersession.Serving.{Serving}
+use Rattle.sender.specs.declared.sendersession.Outcome.the-variants as OutcomeV
 use Rattle.sender.specs.declared.sender.RunAnswer.the-variants as RunV
 use Rattle.fast_run.specs.Settle.{settled-as, settled-by, settled-of}
 use Rattle.fast_run.specs.declared.Settled.{Settled}
@@ -26,14 +26,14 @@ unfolding settled-of
 idles w now t x e = rw e
 
 module _ (w now : ℕ) (t : Slot) (x : SenderSession) (busy : x .busy ≡ true) where
-  abbrev of-service : Service → Settled
+  abbrev of-service : Serving → Settled
   of-service r = settled-by x (t .file .toi) (r .session) (r .answer)
 
   pub goes : settled-of w now t x ≡ of-service (served-of (forced-slot t) (not (eqb w 0)) now x)
   unfolding settled-of
   goes = rw busy
 
-  still : not (eqb w 0) || too-early now (pace-said (x .pace)) ≡ true → served-of (forced-slot t) (not (eqb w 0)) now x ≡ record { answer = ServedV.Idle; session = x }
+  still : not (eqb w 0) || too-early now (pace-said (x .pace)) ≡ true → served-of (forced-slot t) (not (eqb w 0)) now x ≡ record { answer = OutcomeV.Idle; session = x }
   unfolding served-of
   still e = rw e
 
@@ -62,5 +62,5 @@ module _ (w now : ℕ) (t : Slot) (x : SenderSession) (busy : x .busy ≡ true) 
 
       -- a packet is sent
       pub sends : (y : Symbol) → r .answer ≡ EmittedV.One y
-          → settled-of w now t x ≡ settled-as true (answer-of false (t .file .toi) 0 (ServedV.Sent y)) (record { priority = x .priority; busy = x .busy; slot = x .slot; pace = ticked-of (x .pace); encoder = r .encoder })
+          → settled-of w now t x ≡ settled-as true (answer-of false (t .file .toi) 0 (OutcomeV.Sent y)) (record { priority = x .priority; busy = x .busy; slot = x .slot; pace = ticked-of (x .pace); encoder = r .encoder })
       sends y h = goes ∙ ap of-service (served ∙ ap (service-by x (r .encoder)) h)

@@ -13,7 +13,7 @@ use Rattle.lifecycle.specs.Lifecycle.{too-early}
 use Rattle.lifecycle.specs.FileDesc.{pace-said, ticked-of}
 use Rattle.lifecycle.specs.declared.filedesc.Pace.{Pace}
 use Rattle.lifecycle.specs.declared.slots.Slot.{Slot}
-use Rattle.sender.specs.EncoderCalls.{Valid as EncoderValid}
+use Rattle.sender.specs.EncoderCalls.{ValidEncoder}
 use Rattle.sender.specs.EncoderCalls.{moved-of, glance-of, Steps}
 use Rattle.sender.specs.SessionCalls.{forced-slot}
 use Rattle.sender.specs.SenderCalls.{answer-of}
@@ -22,7 +22,7 @@ use Rattle.sender.specs.declared.blockencoder.Visit.{Visit}
 use Rattle.sender.specs.declared.blockencoder.Glance.{Glance}
 use Rattle.sender.specs.declared.blockencoder.Glance.the-variants as GlanceV
 use Rattle.sender.specs.declared.sendersession.SenderSession.{SenderSession}
-use Rattle.sender.specs.declared.sendersession.Served.the-variants as ServedV
+use Rattle.sender.specs.declared.sendersession.Outcome.the-variants as OutcomeV
 use Rattle.sender.proofs.EncoderReads.{glance-steps}
 use Rattle.host_structs.specs.Answers.{run-told}
 use Rattle.host_structs.specs.declared.answers.Sent.{Sent}
@@ -92,7 +92,7 @@ module _ (w now : ℕ) (t : Slot) (x : SenderSession) (ok : ValidSession x) (b :
     due : Due w now t x
     due = due-told w now t x (sym asked ∙ yes)
 
-    pub valid : EncoderValid (x .encoder)
+    pub valid : ValidEncoder (x .encoder)
     valid = ok .busy (due .busy)
 
     module _ (y : Glance) (seen : y ≡ glance-of (x .encoder)) where
@@ -111,7 +111,7 @@ module _ (w now : ℕ) (t : Slot) (x : SenderSession) (ok : ValidSession x) (b :
 
         -- what the host is told, and the session, by its pace and encoder
         abbrev after : Pace → BlockEncoder → Settled
-        after p z = settled-as true (answer-of false (t .file .toi) 0 (ServedV.Sent (v .symbol))) (record { priority = x .priority; busy = x .busy; slot = x .slot; pace = p; encoder = z })
+        after p z = settled-as true (answer-of false (t .file .toi) 0 (OutcomeV.Sent (v .symbol))) (record { priority = x .priority; busy = x .busy; slot = x .slot; pace = p; encoder = z })
 
         quick : Quick w now t x (numbers-by (t .file .toi) x (GlanceV.One v))
         quick = record {
@@ -120,7 +120,7 @@ module _ (w now : ℕ) (t : Slot) (x : SenderSession) (ok : ValidSession x) (b :
           place = within;
         }
 
-        pub glances : (n : Pace) → n ≡ ticked-of (x .pace) → (a : Sent) → a ≡ run-told false (answer-of false (t .file .toi) 0 (ServedV.Sent (v .symbol)))
+        pub glances : (n : Pace) → n ≡ ticked-of (x .pace) → (a : Sent) → a ≡ run-told false (answer-of false (t .file .toi) 0 (OutcomeV.Sent (v .symbol)))
             → Glances w now t x (record { done = true; place = v .place; esi = esi (v .symbol .esi .0 + 1); next = v .place + 1; due = n .due; answer = a })
         unfolding numbers-of
         glances n en a ea =

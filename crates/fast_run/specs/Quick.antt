@@ -17,7 +17,7 @@ use Rattle.sender.specs.declared.blockencoder.BlockEncoder.{BlockEncoder}
 use Rattle.sender.specs.declared.blockencoder.Glance.{Glance}
 use Rattle.sender.specs.declared.blockencoder.Glance.the-variants as GlanceV
 use Rattle.sender.specs.declared.sendersession.SenderSession.{SenderSession}
-use Rattle.sender.specs.declared.sendersession.Served.the-variants as ServedV
+use Rattle.sender.specs.declared.sendersession.Outcome.the-variants as OutcomeV
 use Rattle.sender.specs.declared.sender.RunAnswer.the-variants as RunV
 use Rattle.host_structs.specs.Answers.{run-told}
 use Rattle.fast_run.specs.Settle.{settled-of}
@@ -33,7 +33,7 @@ no-numbers = record { done = false; place = 0; esi = esi 0; next = 0; due = 0; a
 
 -- the next symbol of the block that is read, the place after it, the due time after a tick, and the packet
 abbrev pub numbers-by : ℕ → SenderSession → Glance → Numbers
-numbers-by toi x (GlanceV.One v) = record { done = true; place = v .place; esi = esi (v .symbol .esi .0 + 1); next = v .place + 1; due = ticked-of (x .pace) .due; answer = run-told false (answer-of false toi 0 (ServedV.Sent (v .symbol))) }
+numbers-by toi x (GlanceV.One v) = record { done = true; place = v .place; esi = esi (v .symbol .esi .0 + 1); next = v .place + 1; due = ticked-of (x .pace) .due; answer = run-told false (answer-of false toi 0 (OutcomeV.Sent (v .symbol))) }
 numbers-by toi x GlanceV.Other = no-numbers
 
 unfoldable pub numbers-of : ℕ → ℕ → Slot → SenderSession → Numbers

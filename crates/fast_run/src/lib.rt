@@ -5,7 +5,7 @@ ghost use mathlib.Core.Path.{_≡_};
 ghost use mathlib.Core.Bool.{true, false};
 ghost use Rattle.sender.specs.SenderCalls.{answer-of};
 ghost use Rattle.sender.specs.declared.sender.RunAnswer.the-variants as RunV;
-ghost use Rattle.sender.specs.declared.sendersession.Served.the-variants as ServedV;
+ghost use Rattle.sender.specs.declared.sendersession.Outcome.the-variants as OutcomeV;
 ghost use Rattle.fast_run.specs.Settle.{ValidSession, settled-as, settled-of};
 use host_structs::answers::Sent;
 use host_structs::answers::run_told;
@@ -38,7 +38,7 @@ fn nothing(x: SenderSession, done: bool) -> Settled
 
 // A packet of the object with number toi.
 fn one(x: SenderSession, toi: u64, symbol: Symbol) -> Settled
-    ensures { λ r. ⌜ r ≡ settled-as true (answer-of false toi 0 (ServedV.Sent symbol)) x ⌝ }
+    ensures { λ r. ⌜ r ≡ settled-as true (answer-of false toi 0 (OutcomeV.Sent symbol)) x ⌝ }
 {
     let packet = Packet {
         is_fdt: false,

@@ -3,7 +3,7 @@ use mathlib.Core.Bool.{Bool}
 use Prim.Native.Nat.{ℕ}
 use Rattle.sizes.specs.Words.{if_then_else_}
 use Rattle.sizes.specs.declared.partition.Sizes.{Sizes}
-use Rattle.lifecycle.specs.declared.filedesc.Rule.{Rule}
+use Rattle.lifecycle.specs.declared.filedesc.Plan.{Plan}
 use Rattle.lifecycle.specs.declared.filedesc.Carousel.{Carousel}
 use Rattle.lifecycle.specs.declared.filedesc.Carousel.the-variants as CarouselV
 use Rattle.lifecycle.specs.declared.filedesc.Target.{Target}
@@ -19,10 +19,10 @@ use Rattle.sender.specs.declared.setup.Setup.{Setup}
 use Rattle.host_structs.specs.declared.inputs.PlainObject.{PlainObject}
 use Rattle.host_structs.specs.declared.inputs.PlainSetup.{PlainSetup}
 
-unfoldable pub carousel-in : Rule → Carousel
+unfoldable pub carousel-in : Plan → Carousel
 carousel-in x = if x .repeats then (if x .«from_start» then CarouselV.Interval (x .interval) else CarouselV.Delay (x .interval)) else CarouselV.Never
 
-unfoldable pub target-in : Rule → Target
+unfoldable pub target-in : Plan → Target
 target-in x = if x .paced then (if x .«by_time» then TargetV.By (x .target) else TargetV.Within (x .target)) else TargetV.AtOnce
 
 unfoldable pub own-in : Bool → Sizes → Own
@@ -33,11 +33,11 @@ object-in o = record {
   priority = o .priority;
   part = o .part;
   own = own-in (o .own) (o .sizes);
-  most = o .rule .most;
-  carousel = carousel-in (o .rule);
-  target = target-in (o .rule);
+  most = o .plan .most;
+  carousel = carousel-in (o .plan);
+  target = target-in (o .plan);
   start = o .start;
-  «stop_at_once» = o .rule .«stop_at_once»;
+  «stop_at_once» = o .plan .«stop_at_once»;
 }
 
 unfoldable pub named-in : PlainObject → Named

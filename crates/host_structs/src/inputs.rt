@@ -4,7 +4,7 @@ ghost use Rattle.host_structs.specs.Inputs.{carousel-in, target-in, own-
 use lifecycle::fdt::Named;
 use lifecycle::fdt::Own;
 use lifecycle::filedesc::Carousel;
-use lifecycle::filedesc::Rule;
+use lifecycle::filedesc::Plan;
 use lifecycle::filedesc::Target;
 use lifecycle::filedesc::Time;
 use lifecycle::parts::Part;
@@ -20,7 +20,7 @@ pub struct PlainObject {
     pub part: Part,
     pub own: bool,
     pub sizes: Sizes,
-    pub rule: Rule,
+    pub plan: Plan,
     pub start: Time,
     pub named: bool,
     pub toi: u64,
@@ -43,7 +43,7 @@ pub struct PlainSetup {
     pub fdt_store: u64,
 }
 
-fn carousel_in(x: Rule) -> Carousel
+fn carousel_in(x: Plan) -> Carousel
     ensures { λ r. ⌜ r ≡ carousel-in x ⌝ }
 {
     if x.repeats {
@@ -55,7 +55,7 @@ fn carousel_in(x: Rule) -> Carousel
     Carousel::Never
 }
 
-fn target_in(x: Rule) -> Target
+fn target_in(x: Plan) -> Target
     ensures { λ r. ⌜ r ≡ target-in x ⌝ }
 {
     if x.paced {
@@ -80,7 +80,7 @@ fn own_in(own: bool, z: Sizes) -> Own
 pub fn object_in(o: PlainObject) -> Object
     ensures { λ r. ⌜ r ≡ object-in o ⌝ }
 {
-    let x = o.rule;
+    let x = o.plan;
     let z = o.sizes;
     let part = o.part;
     let start = o.start;

@@ -18,14 +18,14 @@ use Rattle.lifecycle.specs.Lifecycle.{may-start}
 use Rattle.lifecycle.specs.FileDesc.{plan-of, life-of}
 use Rattle.lifecycle.specs.Slots.{published-slot}
 use Rattle.lifecycle.specs.Announce as Ann
-use Rattle.lifecycle.specs.Announce.{draft-given, no-instance, FdtValid, fdt-rule, needs-new-of, first-instance, queued-of, front-of, started-instance, done-instance, holding, start-of, republished-of, transferring-of, next-of, shares-fdt-of, bad-fdt-of}
-use Rattle.lifecycle.specs.FdtCalls.{announced, with-announcer, next-fdt-of, fdt-done-of}
+use Rattle.lifecycle.specs.Announce.{draft-given, no-instance, ValidAnnouncer, fdt-plan-of, needs-new-of, first-instance, queued-of, front-of, started-instance, done-instance, holding, start-of, republished-of, transferring-of, next-of, shares-fdt-of, bad-fdt-of}
+use Rattle.lifecycle.specs.FdtCalls.{with-published, with-announcer, next-fdt-of, fdt-done-of}
 use Rattle.lifecycle.specs.declared.parts.Part.{Part}
-use Rattle.lifecycle.specs.declared.filedesc.Rule.{Rule}
+use Rattle.lifecycle.specs.declared.filedesc.Plan.{Plan}
 use Rattle.lifecycle.specs.declared.slots.Slot.{Slot}
 use Rattle.lifecycle.specs.declared.announce.Instance.{Instance}
 use Rattle.lifecycle.specs.declared.announce.Announcer.{Announcer}
-use Rattle.lifecycle.specs.declared.announce.NextFdt.{NextFdt}
+use Rattle.lifecycle.specs.declared.announce.NextInstance.{NextInstance}
 use Rattle.lifecycle.specs.declared.announce.Draft.{Draft}
 use Rattle.lifecycle.specs.declared.announce.Draft.the-variants.{Given, Missing}
 use Rattle.lifecycle.specs.declared.fdt.Fdt.{Fdt}
@@ -62,8 +62,8 @@ marked-slots taken t = if taken then map published-slot t else t
 -- the next FDT
 module _ (now : ℕ) (draft : Draft) (f : Fdt) where
   -- the FDT side's own
-  abbrev pub side-next : NextFdt
-  side-next = next-of (fdt-rule (f .settings .«from_start») (f .settings .interval)) (f .settings .validity) now draft (f .announcer)
+  abbrev pub side-next : NextInstance
+  side-next = next-of (fdt-plan-of (f .settings .«from_start») (f .settings .interval)) (f .settings .validity) now draft (f .announcer)
 
   pub next-fdt-taken : next-fdt-of now draft f .taken ≡ side-next .taken
   unfolding next-fdt-of
@@ -87,7 +87,7 @@ module _ (now : ℕ) (draft : Draft) (f : Fdt) where
   unfolding next-fdt-of
   next-fdt-slots = by (side-next .taken)
     where
-      by : (b : Bool) → (if b then announced f (side-next .announcer) else with-announcer f (side-next .announcer)) .slots ≡ marked-slots b (f .slots)
+      by : (b : Bool) → (if b then with-published f (side-next .announcer) else with-announcer f (side-next .announcer)) .slots ≡ marked-slots b (f .slots)
       by true = refl
       by false = refl
 
@@ -95,10 +95,10 @@ module _ (now : ℕ) (draft : Draft) (f : Fdt) where
 pub next-fdt-untaken : (now : ℕ) (f : Fdt) → next-fdt-of now Missing f .taken ≡ false
 unfolding next-fdt-of next-of start-of
 next-fdt-untaken now f =
-    let r = fdt-rule (f .settings .«from_start») (f .settings .interval) in
+    let r = fdt-plan-of (f .settings .«from_start») (f .settings .interval) in
     let b = front-of (republished-of (f .settings .validity) now Missing (f .announcer)) in
-    if-on (λ (n : NextFdt). n .taken ≡ false) (transferring-of (f .announcer)) (λ e. refl)
-    (λ e. if-on (λ (n : NextFdt). n .taken ≡ false) (b .«has_current» && may-start (plan-of r) now (life-of (b .current .life)))
+    if-on (λ (n : NextInstance). n .taken ≡ false) (transferring-of (f .announcer)) (λ e. refl)
+    (λ e. if-on (λ (n : NextInstance). n .taken ≡ false) (b .«has_current» && may-start (plan-of r) now (life-of (b .current .life)))
     (λ c. neither (needs-new-of (f .settings .validity) now (f .announcer))) (λ c. neither (needs-new-of (f .settings .validity) now (f .announcer))))
   where
     neither : (b : Bool) → (b && false) ≡ false
@@ -107,7 +107,7 @@ next-fdt-untaken now f =
 
 -- the end of an FDT's transfer
 module _ (now : ℕ) (f : Fdt) where
-  pub fdt-done-side : fdt-done-of now f .announcer ≡ Ann.done-of now (f .announcer)
+  pub fdt-done-side : fdt-done-of now f .announcer ≡ Ann.current-done now (f .announcer)
   unfolding fdt-done-of
   fdt-done-side = refl
 
@@ -128,7 +128,7 @@ pub record EachFdt (P : Part → Type 0) (a : Announcer) : Type 0 where
 
 module _ (P : Part → Type 0) (a : Announcer) (p : EachFdt P a) where
   -- one more waits
-  pub queued-each : (now : ℕ) (c : Part) → FdtValid a → a .waiting < waiting-fdts → P c → EachFdt P (queued-of now c a)
+  pub queued-each : (now : ℕ) (c : Part) → ValidAnnouncer a → a .waiting < waiting-fdts → P c → EachFdt P (queued-of now c a)
   unfolding queued-of
   queued-each now c v h g = record { waiting = λ i k. at i k (tested (eqb i (a .waiting))); current = p .current }
     where
@@ -157,38 +157,38 @@ module _ (P : Part → Type 0) (a : Announcer) (p : EachFdt P a) where
   holding-each : (i : Instance) → i .part ≡ a .current .part → EachFdt P (holding a i)
   holding-each i e = record { waiting = p .waiting; current = λ q. subst P (sym e) (p .current q) }
 
-  start-each : (r : Rule) (now : ℕ) (taken : Bool) → EachFdt P (start-of r now taken a .announcer)
+  start-each : (r : Plan) (now : ℕ) (taken : Bool) → EachFdt P (start-of r now taken a .announcer)
   unfolding start-of
-  start-each r now taken = if-on (λ (n : NextFdt). EachFdt P (n .announcer)) (a .«has_current» && may-start (plan-of r) now (life-of (a .current .life)))
+  start-each r now taken = if-on (λ (n : NextInstance). EachFdt P (n .announcer)) (a .«has_current» && may-start (plan-of r) now (life-of (a .current .life)))
       (λ e. holding-each (started-instance r now (a .current)) refl) (λ e. p)
 
-  republished-each : FdtValid a → (validity now : ℕ) (draft : Draft) → ((c : Part) → draft-given draft ≡ some c → P c) → EachFdt P (republished-of validity now draft a)
+  republished-each : ValidAnnouncer a → (validity now : ℕ) (draft : Draft) → ((c : Part) → draft-given draft ≡ some c → P c) → EachFdt P (republished-of validity now draft a)
   unfolding republished-of
   republished-each v validity now (Given c) g = if-on (EachFdt P) (needs-new-of validity now a)
       (λ e. queued-each now c v (let n = needed-empty validity now a e in omega arith) (g c refl)) (λ e. p)
   republished-each v validity now Missing g = if-on (EachFdt P) (needs-new-of validity now a) (λ e. p) (λ e. p)
 
-  done-each : (now : ℕ) → EachFdt P (Ann.done-of now a)
-  unfolding Ann.done-of
+  done-each : (now : ℕ) → EachFdt P (Ann.current-done now a)
+  unfolding Ann.current-done
   done-each now = if-on (EachFdt P) (a .«has_current») (λ e. holding-each (done-instance now (a .current)) refl) (λ e. p)
 
 module _ (P : Part → Type 0) (now : ℕ) (f : Fdt) (p : EachFdt P (f .announcer)) where
   -- a draft may be published
-  pub next-fdt-each : (draft : Draft) → FdtValid (f .announcer) → ((c : Part) → draft-given draft ≡ some c → P c) → EachFdt P (next-fdt-of now draft f .fdt .announcer)
+  pub next-fdt-each : (draft : Draft) → ValidAnnouncer (f .announcer) → ((c : Part) → draft-given draft ≡ some c → P c) → EachFdt P (next-fdt-of now draft f .fdt .announcer)
   unfolding next-of
-  next-fdt-each draft v g = subst (EachFdt P) (sym (next-fdt-side now draft f)) (if-on (λ (n : NextFdt). EachFdt P (n .announcer)) (transferring-of (f .announcer)) (λ e. p) (λ e.
+  next-fdt-each draft v g = subst (EachFdt P) (sym (next-fdt-side now draft f)) (if-on (λ (n : NextInstance). EachFdt P (n .announcer)) (transferring-of (f .announcer)) (λ e. p) (λ e.
       let b = republished-of (f .settings .validity) now draft (f .announcer) in
       start-each P (front-of b) (front-each P b (republished-each P (f .announcer) p v (f .settings .validity) now draft g))
-      (fdt-rule (f .settings .«from_start») (f .settings .interval)) now (needs-new-of (f .settings .validity) now (f .announcer) && given (draft-given draft))))
+      (fdt-plan-of (f .settings .«from_start») (f .settings .interval)) now (needs-new-of (f .settings .validity) now (f .announcer) && given (draft-given draft))))
 
   pub fdt-done-each : EachFdt P (fdt-done-of now f .announcer)
   fdt-done-each = subst (EachFdt P) (sym (fdt-done-side now f)) (done-each P (f .announcer) p now)
 
 -- where one starts, there is a current one
-abbrev Starts : NextFdt → Type 0
+abbrev Starts : NextInstance → Type 0
 Starts n = n .starts ≡ true → n .announcer .«has_current» ≡ true
 
-start-current : (r : Rule) (now : ℕ) (a : Announcer) (taken : Bool) → Starts (start-of r now taken a)
+start-current : (r : Plan) (now : ℕ) (a : Announcer) (taken : Bool) → Starts (start-of r now taken a)
 unfolding start-of
 start-current r now a taken = if-on Starts (a .«has_current» && may-start (plan-of r) now (life-of (a .current .life)))
     (λ e q. and-left (a .«has_current») (may-start (plan-of r) now (life-of (a .current .life))) e) (λ e q. absurd (false≢true q))
@@ -196,7 +196,7 @@ start-current r now a taken = if-on Starts (a .«has_current» && may-start (pla
 pub next-fdt-current : (now : ℕ) (draft : Draft) (f : Fdt) → next-fdt-of now draft f .starts ≡ true → next-fdt-of now draft f .fdt .announcer .«has_current» ≡ true
 unfolding next-of
 next-fdt-current now draft f e = ap (λ a. a .«has_current») (next-fdt-side now draft f) ∙ if-on Starts (transferring-of (f .announcer)) (λ t q. absurd (false≢true q))
-    (λ t. start-current (fdt-rule (f .settings .«from_start») (f .settings .interval)) now (front-of (republished-of (f .settings .validity) now draft (f .announcer)))
+    (λ t. start-current (fdt-plan-of (f .settings .«from_start») (f .settings .interval)) now (front-of (republished-of (f .settings .validity) now draft (f .announcer)))
     (needs-new-of (f .settings .validity) now (f .announcer) && given (draft-given draft)))
     (sym (next-fdt-starts now draft f) ∙ e)
 

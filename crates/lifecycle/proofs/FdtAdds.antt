@@ -16,7 +16,7 @@ use Rattle.sizes.specs.declared.toiallocator.ToiAllocator.{ToiAllocator}
 use Rattle.sizes.proofs.AllocatorViews.{allocated-room}
 use Rattle.lifecycle.specs.Setup.{bad-blocks}
 use Rattle.lifecycle.specs.Slots.{is-free}
-use Rattle.lifecycle.specs.FdtCalls.{files, waits, Valid, with-tois, own-of, bad-part-of, put-of, refuses, refusal, named-of, fresh-of, numbered-of, added-of}
+use Rattle.lifecycle.specs.FdtCalls.{files, waits, ValidFdt, with-tois, own-of, bad-part-of, put-of, refuses, refusal, named-of, fresh-of, numbered-of, added-of}
 use Rattle.lifecycle.specs.FdtCalls.{new-slot}
 use Rattle.lifecycle.proofs.FdtMeans.{Seen, ListAdds, refused, admits, unknown, full}
 use Rattle.lifecycle.specs.declared.fdt.Fdt.{Fdt}
@@ -28,7 +28,7 @@ use Rattle.lifecycle.specs.declared.fdt.Named.the-variants as NamedV
 use Rattle.lifecycle.proofs.FdtFacts.{maybe-on, if-on, free-at}
 use Rattle.lifecycle.proofs.FdtViews.{seen-joins}
 
-module _ (f : Fdt) (v : Valid f) (q : Request) (z : Sizes) where
+module _ (f : Fdt) (v : ValidFdt f) (q : Request) (z : Sizes) where
   pub put-view : (a : ToiAllocator) (k t : ℕ) → place is-free (f .slots) ≡ some k → Seen f (files f ++ (new-slot q z t .file ∷ [])) k (new-slot q z t) (put-of (with-tois f a) k t q z)
   unfolding put-of
   put-view a k t e = let h = free-at f v k e in seen-joins f v k (h .0) (new-slot q z t) a (ap waits (h .1 .blank))
@@ -68,7 +68,7 @@ module _ (f : Fdt) (v : Valid f) (q : Request) (z : Sizes) where
   numbered-view (NamedV.Toi t) = named-view t
   numbered-view NamedV.Anew = fresh-view
 
-pub added-view : (f : Fdt) → Valid f → (q : Request) (named : Named) → ListAdds f q (own-of (q .own) (f .settings .sizes)) named (added-of f q named)
+pub added-view : (f : Fdt) → ValidFdt f → (q : Request) (named : Named) → ListAdds f q (own-of (q .own) (f .settings .sizes)) named (added-of f q named)
 unfolding added-of
 added-view f v q named =
     let z = own-of (q .own) (f .settings .sizes) in

@@ -18,14 +18,14 @@ use Rattle.sizes.proofs.Collects.{at-inside}
 use Rattle.sizes.proofs.AllocatorViews.{freed-view}
 use Rattle.lifecycle.specs.FileDesc.{life-of, with-life, reset-life}
 use Rattle.lifecycle.specs.Slots.{no-slot, slot-at, is-listed-as}
-use Rattle.lifecycle.specs.FdtCalls.{file-at, waiting, files, sends, used, waits, Valid, listed-place, transfers-of, unlisted-of, freed-of, removed-of, triggered-of}
+use Rattle.lifecycle.specs.FdtCalls.{file-at, waiting, files, sends, used, waits, ValidFdt, listed-place, transfers-of, unlisted-of, freed-of, removed-of, triggered-of}
 use Rattle.lifecycle.specs.FdtCalls.{unlisted-slot}
 use Rattle.lifecycle.proofs.FdtMeans.{is-not, Listed, listed-files, Removal, nobody, sent, waited, listed-but, ListRemoves, reset-file, Triggers}
 use Rattle.lifecycle.specs.declared.filedesc.Time.{Time}
 use Rattle.lifecycle.specs.declared.filedesc.FileDesc.{FileDesc}
 use Rattle.lifecycle.specs.declared.slots.Slot.{Slot}
 use Rattle.lifecycle.specs.declared.fdt.Fdt.{Fdt}
-use Rattle.lifecycle.specs.declared.fdt.Told.{Told}
+use Rattle.lifecycle.specs.declared.fdt.Touched.{Touched}
 use Rattle.lifecycle.proofs.FdtFacts.{maybe-on, if-on, one-true, used-listed, used-sends, waits-not, listed-at, waits-at, absent, number-held, queue-place}
 use Rattle.lifecycle.proofs.FdtViews.{differs, map-two, not-in, none-at, no-right, apart, others, in-waiting, waiting-used, at-each, seen-aside, seen-leaves}
 
@@ -36,7 +36,7 @@ pub none-listed : (t : ℕ) (f : Fdt) → listed-place t f ≡ none → (k : ℕ
 unfolding is-listed-as
 none-listed t f e = none-at no-slot (is-listed-as t) (f .slots) e refl
 
-module _ (t : ℕ) (f : Fdt) (v : Valid f) where
+module _ (t : ℕ) (f : Fdt) (v : ValidFdt f) where
   -- so no object that waits has it
   none-waits : listed-place t f ≡ none → (j : ℕ) → 1 ≤ times j (waiting f) → eqb (file-at (f .slots) j .toi) t ≡ false
   unfolding is-listed-as
@@ -69,7 +69,7 @@ module _ (t : ℕ) (f : Fdt) (v : Valid f) where
 
 -- ---- remove
 
-pub removed-cases : (t : ℕ) (f : Fdt) → Valid f → Removal t f (removed-of t f)
+pub removed-cases : (t : ℕ) (f : Fdt) → ValidFdt f → Removal t f (removed-of t f)
 unfolding removed-of unlisted-of freed-of
 removed-cases t f v = maybe-on (Removal t f) (listed-place t f)
     (λ e. nobody (record { unlisted = none-listed t f e; queue = keep-none t f v (none-waits t f v e); unchanged = refl }))
@@ -102,7 +102,7 @@ removed-cases t f v = maybe-on (Removal t f) (listed-place t f)
 -- the answer
 pub removed-answer : (t : ℕ) (f : Fdt) → removed-of t f .yes ≡ given (listed-place t f)
 unfolding removed-of
-removed-answer t f = maybe-on (λ (x : Told). x .yes ≡ given (listed-place t f)) (listed-place t f) (λ e. sym (ap given e)) (λ k e. sym (ap given e))
+removed-answer t f = maybe-on (λ (x : Touched). x .yes ≡ given (listed-place t f)) (listed-place t f) (λ e. sym (ap given e)) (λ k e. sym (ap given e))
 
 still : (a b : Bool) → (a && b) ≡ false → a ≡ (a && not b)
 still true b e = sym (ap not e)
@@ -116,12 +116,12 @@ dropped : (a b : Bool) → b ≡ true → false ≡ (a && not b)
 dropped true b e = sym (ap not e)
 dropped false b e = refl
 
-pub removed-view : (t : ℕ) (f : Fdt) → Valid f → ListRemoves t f (removed-of t f .fdt)
+pub removed-view : (t : ℕ) (f : Fdt) → ValidFdt f → ListRemoves t f (removed-of t f .fdt)
 unfolding is-listed-as
 removed-view t f v = go (removed-of t f) (removed-cases t f v)
   where
-    go : (r : Told) → Removal t f r → ListRemoves t f (r .fdt)
-    go r (nobody h) = subst (λ (x : Told). ListRemoves t f (x .fdt)) (sym (h .unchanged)) (record {
+    go : (r : Touched) → Removal t f r → ListRemoves t f (r .fdt)
+    go r (nobody h) = subst (λ (x : Touched). ListRemoves t f (x .fdt)) (sym (h .unchanged)) (record {
       queue = h .queue;
       sent-same = λ j. refl;
       file-same = λ j s. refl;
@@ -148,7 +148,7 @@ removed-view t f v = go (removed-of t f) (removed-cases t f v)
 
 -- ---- trigger
 
-module _ (t : ℕ) (start : Time) (f : Fdt) (v : Valid f) where
+module _ (t : ℕ) (start : Time) (f : Fdt) (v : ValidFdt f) where
   reset-other : (o : FileDesc) → eqb (o .toi) t ≡ false → o ≡ reset-file t start o
   reset-other o e = rw e
 
@@ -165,7 +165,7 @@ module _ (t : ℕ) (start : Time) (f : Fdt) (v : Valid f) where
 
   pub triggered-view : Triggers t start f (triggered-of t start f .fdt)
   unfolding triggered-of reset-life
-  triggered-view = maybe-on (λ (x : Told). Triggers t start f (x .fdt)) (listed-place t f)
+  triggered-view = maybe-on (λ (x : Touched). Triggers t start f (x .fdt)) (listed-place t f)
       (λ e. triggers-none (none-waits t f v e))
       (λ k e.
       let li = listed-at t f k e in
@@ -189,7 +189,7 @@ module _ (t : ℕ) (start : Time) (f : Fdt) (v : Valid f) where
   -- the answer
   pub triggered-answer : triggered-of t start f .yes ≡ given (listed-place t f)
   unfolding triggered-of
-  triggered-answer = maybe-on (λ (x : Told). x .yes ≡ given (listed-place t f)) (listed-place t f) (λ e. sym (ap given e)) (λ k e. sym (ap given e))
+  triggered-answer = maybe-on (λ (x : Touched). x .yes ≡ given (listed-place t f)) (listed-place t f) (λ e. sym (ap given e)) (λ k e. sym (ap given e))
 
 -- ---- the object with a number
 
@@ -230,7 +230,7 @@ find-listed t s (k ∷ l) = go (slot-at s k .listed) (eqb (file-at s k .toi) t) 
     go true true e r = rw e
     go true false e r = rw e r
 
-module _ (t : ℕ) (f : Fdt) (v : Valid f) where
+module _ (t : ℕ) (f : Fdt) (v : ValidFdt f) where
   is-toi : FileDesc → Bool
   is-toi o = eqb (o .toi) t
 

@@ -20,7 +20,7 @@ use Rattle.sizes.proofs.Arrays.{getD-shut, take-shut, length-shut}
 use Rattle.sizes.proofs.Tables.{times-at, times-cut, inside, set-all, tally-lt, counts-length}
 use Rattle.sizes.proofs.Collects.{adds, at-inside, collect-set, collect-at}
 use Rattle.lifecycle.specs.Slots.{no-slot, slot-at, is-free, is-listed-as}
-use Rattle.lifecycle.specs.FdtCalls.{waiting, sends, used, waits, Tidy, Valid, with-objects, listed-place}
+use Rattle.lifecycle.specs.FdtCalls.{waiting, sends, used, waits, Tidy, ValidFdt, with-objects, listed-place}
 use Rattle.lifecycle.proofs.FdtMeans.{Waits, Free, Listed}
 use Rattle.lifecycle.specs.declared.slots.Slot.{Slot}
 use Rattle.lifecycle.specs.declared.fdt.Fdt.{Fdt}
@@ -89,7 +89,7 @@ free-slot v t e =
     none-if true h = absurd (omega arith)
     none-if false h = refl
 
-module _ (f : Fdt) (v : Valid f) where
+module _ (f : Fdt) (v : ValidFdt f) where
   pub waits-at : (n k : ℕ) → at (waiting f) n ≡ some k → Waits f n k
   waits-at n k e =
       let y = slot-at (f .slots) k in
@@ -147,7 +147,7 @@ pub record Queue (q : List ℕ) (m : ℕ) : Type 0 where
   pub within : m ≤ object-slots
   pub clear : (i : ℕ) → m ≤ i → getD q i 0 ≡ 0
 
-module _ (f : Fdt) (v : Valid f) where
+module _ (f : Fdt) (v : ValidFdt f) where
   pub queue-same : Queue (f .queue) (f .queued)
   queue-same = record { long = v .queue-long; within = v .queued; clear = v .clear }
 
@@ -178,9 +178,9 @@ module _ (f : Fdt) (v : Valid f) where
   waiting-push k h = rw (add-one (f .queued)) (take-suc-set (f .queue) (f .queued) k h)
 
   -- ---- slot k is changed, and the numbers, the queue and its length may be
-  pub valid-changed : (k : ℕ) → k < length (f .slots) → (w : Slot) (a : ToiAllocator) (q : List ℕ) (m : ℕ) → Tidy w → Alloc.Valid a → Queue q m → Counts no-slot waits (set (f .slots) k w) (take m q)
+  pub valid-changed : (k : ℕ) → k < length (f .slots) → (w : Slot) (a : ToiAllocator) (q : List ℕ) (m : ℕ) → Tidy w → Alloc.ValidAllocator a → Queue q m → Counts no-slot waits (set (f .slots) k w) (take m q)
       → ((n : ℕ) → times n (Alloc.bound a) + adds n (toi-in (slot-at (f .slots) k)) ≡ times n (Alloc.bound (f .tois)) + adds n (toi-in w))
-      → Valid (with-objects f a (set (f .slots) k w) q m)
+      → ValidFdt (with-objects f a (set (f .slots) k w) q m)
   valid-changed k inn w a q m t va qu c o = record {
     tois = va;
     slots-long = length-set (f .slots) k w ∙ v .slots-long;

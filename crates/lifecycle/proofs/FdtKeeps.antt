@@ -20,7 +20,7 @@ use Rattle.sizes.proofs.Tests.{none≢some, or-left, or-right}
 use Rattle.lifecycle.specs.Setup.{bad-blocks}
 use Rattle.lifecycle.specs.Slots.{no-slot, slot-at, is-free, queue-startable, published-slot}
 use Rattle.lifecycle.specs.Announce.{state-of, draft-given, queued-of, bad-fdt-of}
-use Rattle.lifecycle.specs.FdtCalls.{waiting, files, sends, Valid, with-tois, with-objects, reserved-of, released-of, own-of, bad-part-of, put-of, named-of, fresh-of, numbered-of, added-of, listed-place, is-added-of, unlisted-of, freed-of, removed-of, triggered-of, taken-at, taken-of, goes-back, back-of, let-go-of, done-of, announced, publish-of, real-draft, draft-test-of, opening-fdt}
+use Rattle.lifecycle.specs.FdtCalls.{waiting, files, sends, ValidFdt, with-tois, with-objects, reserved-of, released-of, own-of, bad-part-of, put-of, named-of, fresh-of, numbered-of, added-of, listed-place, is-added-of, unlisted-of, freed-of, removed-of, triggered-of, taken-at, taken-of, goes-back, back-of, let-go-of, done-of, with-published, publish-of, real-draft, draft-test-of, opening-fdt}
 use Rattle.lifecycle.proofs.FdtMeans.{Removal, nobody, sent, waited, published-file}
 use Rattle.lifecycle.specs.declared.parts.Part.{Part}
 use Rattle.lifecycle.specs.declared.filedesc.Time.{Time}
@@ -35,7 +35,7 @@ use Rattle.lifecycle.specs.declared.fdt.Named.{Named}
 use Rattle.lifecycle.specs.declared.fdt.Named.the-variants as NamedV
 use Rattle.lifecycle.specs.declared.fdt.Request.{Request}
 use Rattle.lifecycle.specs.declared.fdt.Added.{Added}
-use Rattle.lifecycle.specs.declared.fdt.Told.{Told}
+use Rattle.lifecycle.specs.declared.fdt.Touched.{Touched}
 use Rattle.lifecycle.specs.declared.fdt.Taken.{Taken}
 use Rattle.lifecycle.specs.declared.fdt.Publication.the-variants as PublicationV
 use Rattle.lifecycle.specs.declared.fdt.Published.{Published}
@@ -54,7 +54,7 @@ module _ (a : ToiAllocator) where
   claimed-width t = maybe-on (λ (x : Changed). x .allocator .width ≡ a .width) (place (Alloc.entry-is t true) (Alloc.noted a)) (λ e. refl) (λ i e. refl)
 
   pub dropped-width : (flag : Bool) (t : ℕ) → Alloc.dropped-of flag t a .allocator .width ≡ a .width
-  unfolding Alloc.dropped-of Alloc.without
+  unfolding Alloc.dropped-of Alloc.entry-gone
   dropped-width flag t = maybe-on (λ (x : Changed). x .allocator .width ≡ a .width) (place (Alloc.entry-is t flag) (Alloc.noted a)) (λ e. refl) (λ i e. refl)
 
 -- ---- calls on the objects and their numbers
@@ -118,27 +118,27 @@ module _ (f : Fdt) where
   -- remove
   pub removed-keeps : (t : ℕ) → ObjectsOnly f (removed-of t f .fdt)
   unfolding removed-of unlisted-of freed-of
-  removed-keeps t = maybe-on (λ (r : Told). ObjectsOnly f (r .fdt)) (listed-place t f) (λ e. nothing-changed)
+  removed-keeps t = maybe-on (λ (r : Touched). ObjectsOnly f (r .fdt)) (listed-place t f) (λ e. nothing-changed)
       (λ k e. if-on (ObjectsOnly f) (sends (slot-at (f .slots) k)) (λ s. objects-only _ _ _ _ refl)
       (λ s. maybe-on (ObjectsOnly f) (place (λ j. eqb j k) (waiting f)) (λ q. nothing-changed) (λ n q. objects-only _ _ _ _ (dropped-width (f .tois) false t))))
 
-  pub removed-numbers : (t : ℕ) → Valid f → SameNumbers f (removed-of t f .fdt)
+  pub removed-numbers : (t : ℕ) → ValidFdt f → SameNumbers f (removed-of t f .fdt)
   removed-numbers t v = by (removed-of t f) (removed-cases t f v)
     where
-      by : (r : Told) → Removal t f r → SameNumbers f (r .fdt)
-      by r (nobody h) = record { next = ap (λ (x : Told). x .fdt .tois .next) (h .unchanged); loose = ap (λ (x : Told). Alloc.loose (x .fdt .tois)) (h .unchanged) }
+      by : (r : Touched) → Removal t f r → SameNumbers f (r .fdt)
+      by r (nobody h) = record { next = ap (λ (x : Touched). x .fdt .tois .next) (h .unchanged); loose = ap (λ (x : Touched). Alloc.loose (x .fdt .tois)) (h .unchanged) }
       by r (sent k h) = record { next = ap (λ (a : ToiAllocator). a .next) (h .tois); loose = ap Alloc.loose (h .tois) }
       by r (waited k n h) = record { next = h .number .next-same; loose = h .number .loose-same }
 
   -- trigger
   pub triggered-keeps : (t : ℕ) (start : Time) → ObjectsOnly f (triggered-of t start f .fdt)
   unfolding triggered-of
-  triggered-keeps t start = maybe-on (λ (r : Told). ObjectsOnly f (r .fdt)) (listed-place t f) (λ e. nothing-changed)
+  triggered-keeps t start = maybe-on (λ (r : Touched). ObjectsOnly f (r .fdt)) (listed-place t f) (λ e. nothing-changed)
       (λ k e. if-on (ObjectsOnly f) (sends (slot-at (f .slots) k)) (λ s. nothing-changed) (λ s. objects-only _ _ _ _ refl))
 
   pub triggered-numbers : (t : ℕ) (start : Time) → SameNumbers f (triggered-of t start f .fdt)
   unfolding triggered-of
-  triggered-numbers t start = maybe-on (λ (r : Told). SameNumbers f (r .fdt)) (listed-place t f) (λ e. record { next = refl; loose = refl })
+  triggered-numbers t start = maybe-on (λ (r : Touched). SameNumbers f (r .fdt)) (listed-place t f) (λ e. record { next = refl; loose = refl })
       (λ k e. if-on (SameNumbers f) (sends (slot-at (f .slots) k)) (λ s. record { next = refl; loose = refl }) (λ s. record { next = refl; loose = refl }))
 
   -- a session takes an object, and is done with it
@@ -220,7 +220,7 @@ module _ (c : Part) (f : Fdt) where
   -- refused, it changes nothing; else the FDT is queued, and every listed object is marked
   abbrev pub published-by : ℕ → Option Refusal → Published
   published-by now (some why) = record { answer = PublicationV.Refused why; fdt = f }
-  published-by now none = record { answer = PublicationV.Done; fdt = announced f (queued-of now c (f .announcer)) }
+  published-by now none = record { answer = PublicationV.Done; fdt = with-published f (queued-of now c (f .announcer)) }
 
   pub publish-as : (now : ℕ) → publish-of now c f ≡ published-by now publish-refusal-of
   unfolding publish-of

@@ -25,7 +25,7 @@ use Rattle.lifecycle.specs.Lifecycle.{expired}
 use Rattle.lifecycle.specs.FileDesc.{plan-of, life-of, with-life, reset-life}
 use Rattle.lifecycle.specs.Slots.{no-slot, slot-at, is-free, is-listed-as, queue-startable}
 use Rattle.lifecycle.specs.Setup.{bad-blocks}
-use Rattle.lifecycle.specs.FdtCalls.{waiting, sends, waits, Valid, with-tois, with-slots, own-of, bad-part-of, put-of, refuses, named-of, fresh-of, numbered-of, added-of, transfers-of, unlisted-of, freed-of, removed-of, triggered-of, taken-at, taken-of, ended-file, goes-back, back-of, let-go-of, done-of}
+use Rattle.lifecycle.specs.FdtCalls.{waiting, sends, waits, ValidFdt, with-tois, with-slots, own-of, bad-part-of, put-of, refuses, named-of, fresh-of, numbered-of, added-of, transfers-of, unlisted-of, freed-of, removed-of, triggered-of, taken-at, taken-of, ended-file, goes-back, back-of, let-go-of, done-of}
 use Rattle.lifecycle.specs.declared.filedesc.Time.{Time}
 use Rattle.lifecycle.specs.declared.slots.Slot.{Slot}
 use Rattle.sizes.specs.Place.{place-said}
@@ -54,7 +54,7 @@ said-none e q = sym e ∙ ap place-said q
 
 -- ---- what Valid tells
 
-module _ (f : Fdt) (v : Valid f) where
+module _ (f : Fdt) (v : ValidFdt f) where
   -- as many hold it as it says, so at most the list and a session
   pub holders-few : (k : ℕ) → slot-at (f .slots) k .holders ≤ 2
   holders-few k =
@@ -230,7 +230,7 @@ module _ (p now : ℕ) (f : Fdt) {r : Place} (m : place-said r ≡ place (queue-
   taken-none q = rw (said-none m q)
 
   module _ {n : ℕ} (q : r ≡ At n) where
-    pub startable-found : Valid f → (n < f .queued) × (n < object-slots) × (getD (f .queue) n 0 < object-slots)
+    pub startable-found : ValidFdt f → (n < f .queued) × (n < object-slots) × (getD (f .queue) n 0 < object-slots)
     startable-found v = queue-found f v (queue-startable (f .slots) p now) n (said-some m q)
 
     pub taken-some : taken-of p now f ≡ record { answer = At (getD (f .queue) n 0); fdt = taken-at now f n (getD (f .queue) n 0) }
@@ -244,7 +244,7 @@ module _ (now k : ℕ) (f : Fdt) where
   done-still e = rw e
 
   -- past the end there is none
-  pub done-past : Valid f → object-slots ≤ k → done-of now k f ≡ f
+  pub done-past : ValidFdt f → object-slots ≤ k → done-of now k f ≡ f
   done-past v h = done-still (ap sends (List·getD-eq-default (f .slots) no-slot (let g = v .slots-long in omega arith)))
 
   module _ (e : sends (slot-at (f .slots) k) ≡ true) where
@@ -253,10 +253,10 @@ module _ (now k : ℕ) (f : Fdt) where
     done-unlisted u = rw (e, u)
 
     module _ (u : slot-at (f .slots) k .listed ≡ true) where
-      pub done-expired : expired (plan-of (slot-at (f .slots) k .file .rule)) (life-of (ended-file now (slot-at (f .slots) k) .life)) ≡ true → done-of now k f ≡ let-go-of f k
+      pub done-expired : expired (plan-of (slot-at (f .slots) k .file .plan)) (life-of (ended-file now (slot-at (f .slots) k) .life)) ≡ true → done-of now k f ≡ let-go-of f k
       unfolding done-of goes-back
       done-expired x = rw (x, e, u)
 
-      pub done-back : expired (plan-of (slot-at (f .slots) k .file .rule)) (life-of (ended-file now (slot-at (f .slots) k) .life)) ≡ false → done-of now k f ≡ back-of now f k
+      pub done-back : expired (plan-of (slot-at (f .slots) k .file .plan)) (life-of (ended-file now (slot-at (f .slots) k) .life)) ≡ false → done-of now k f ≡ back-of now f k
       unfolding done-of goes-back
       done-back x = rw (x, e, u)

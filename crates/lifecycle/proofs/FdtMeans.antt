@@ -29,7 +29,7 @@ use Rattle.lifecycle.specs.declared.fdt.Named.the-variants as NamedV
 use Rattle.lifecycle.specs.declared.fdt.Request.{Request}
 use Rattle.lifecycle.specs.declared.fdt.Admission.the-variants as AdmissionV
 use Rattle.lifecycle.specs.declared.fdt.Added.{Added}
-use Rattle.lifecycle.specs.declared.fdt.Told.{Told}
+use Rattle.lifecycle.specs.declared.fdt.Touched.{Touched}
 use Rattle.lifecycle.specs.declared.fdt.Taken.{Taken}
 
 -- ---- a slot
@@ -107,13 +107,13 @@ full NamedV.Anew f = not (given (place is-free (f .slots))) || not (ltb (f .tois
 -- ---- remove
 
 -- nobody listed has the number, and nothing has changed
-pub record FindsNobody (t : ℕ) (f : Fdt) (r : Told) : Type 0 where
+pub record FindsNobody (t : ℕ) (f : Fdt) (r : Touched) : Type 0 where
   pub unlisted : (k : ℕ) → is-listed-as t (slot-at (f .slots) k) ≡ false
   pub queue : files f ≡ keep (is-not t) (files f)
   pub unchanged : r ≡ record { yes = false; fdt = f }
 
 -- it is in transfer from slot k, and only the list lets go
-pub record Unlists (t : ℕ) (f : Fdt) (k : ℕ) (r : Told) : Type 0 where
+pub record Unlists (t : ℕ) (f : Fdt) (k : ℕ) (r : Touched) : Type 0 where
   pub found : Listed t f k
   pub is-sent : sends (slot-at (f .slots) k) ≡ true
   pub queue : files f ≡ keep (is-not t) (files f)
@@ -122,7 +122,7 @@ pub record Unlists (t : ℕ) (f : Fdt) (k : ℕ) (r : Told) : Type 0 where
   pub view : Seen f (files f) k (unlisted-slot (slot-at (f .slots) k)) (r .fdt)
 
 -- it waits in slot k, at place n of the queue, and is free from now on
-pub record Frees (t : ℕ) (f : Fdt) (k n : ℕ) (r : Told) : Type 0 where
+pub record Frees (t : ℕ) (f : Fdt) (k n : ℕ) (r : Touched) : Type 0 where
   pub found : Listed t f k
   pub waits : Waits f n k
   pub queue : cut (files f) n ≡ keep (is-not t) (files f)
@@ -131,7 +131,7 @@ pub record Frees (t : ℕ) (f : Fdt) (k n : ℕ) (r : Told) : Type 0 where
   pub view : Seen f (cut (files f) n) k no-slot (r .fdt)
 
 -- one of the three
-pub data Removal (t : ℕ) (f : Fdt) (r : Told) : Type 0 where
+pub data Removal (t : ℕ) (f : Fdt) (r : Touched) : Type 0 where
   nobody : FindsNobody t f r → Removal t f r
   sent : (k : ℕ) → Unlists t f k r → Removal t f r
   waited : (k n : ℕ) → Frees t f k n r → Removal t f r

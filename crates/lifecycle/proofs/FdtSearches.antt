@@ -13,7 +13,7 @@ use Rattle.sizes.proofs.Lists.{Sought, hit, miss, sought, at-get, found-none}
 use Rattle.sizes.proofs.Tables.{find-any, tally-all, tally-lt, any-counts}
 use Rattle.lifecycle.specs.Parts.{shares, past-store}
 use Rattle.lifecycle.specs.Slots.{no-slot, slot-at, is-free, is-listed-as, holds-byte}
-use Rattle.lifecycle.specs.FdtCalls.{waiting, files, sends, used, waits, Tidy, Valid, bad-part-of, is-added-of}
+use Rattle.lifecycle.specs.FdtCalls.{waiting, files, sends, used, waits, Tidy, ValidFdt, bad-part-of, is-added-of}
 use Rattle.lifecycle.specs.declared.parts.Part.{Part}
 use Rattle.lifecycle.specs.declared.filedesc.FileDesc.{FileDesc}
 use Rattle.lifecycle.specs.declared.slots.Slot.{Slot}
@@ -54,7 +54,7 @@ any-split ok (y ∷ t) = ap (λ b. (used y && ok y) || b) (any-split ok t) ∙ s
     sort false true false b c = refl
     sort false false o b c = refl
 
-module _ (f : Fdt) (v : Valid f) where
+module _ (f : Fdt) (v : ValidFdt f) where
   -- those that wait are the objects in the queue
   any-waiting : (ok : FileDesc → Bool) → any (λ (y : Slot). waits y && ok (y .file)) (f .slots) ≡ any ok (files f)
   any-waiting ok = sym (any-counts no-slot waits (f .slots) (waiting f) refl (v .in-queue) ok (λ (y : Slot). y .file))

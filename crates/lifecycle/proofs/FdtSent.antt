@@ -10,9 +10,9 @@ use borrow.Author.Tests.{eqb-true, eq-eqb}
 use Rattle.sizes.specs.Words.{one-if, times, Counts}
 use Rattle.sizes.specs.declared.refusal.Refusal.{Refusal}
 use Rattle.lifecycle.specs.FileDesc.{started-life, done-life}
-use Rattle.lifecycle.specs.Announce.{fdt-rule, next-of, queued-of}
+use Rattle.lifecycle.specs.Announce.{fdt-plan-of, next-of, queued-of}
 use Rattle.lifecycle.specs.Slots.{no-slot, slot-at}
-use Rattle.lifecycle.specs.FdtCalls.{sends, Valid, completed-of, reserved-of, released-of, own-of, added-of, taken-of, done-of, announced, publish-of, next-fdt-of, fdt-done-of}
+use Rattle.lifecycle.specs.FdtCalls.{sends, ValidFdt, completed-of, reserved-of, released-of, own-of, added-of, taken-of, done-of, with-published, publish-of, next-fdt-of, fdt-done-of}
 use Rattle.lifecycle.proofs.FdtMeans.{SentSame, ListAdds, refused, admits, Takes, nothing, takes, is-taken, Ends, idle, back, gone}
 use Rattle.lifecycle.specs.declared.parts.Part.{Part}
 use Rattle.lifecycle.specs.declared.announce.Announcer.{Announcer}
@@ -36,7 +36,7 @@ module _ (f r : Fdt) (h : SentSame f r) where
 
 -- ---- take
 
-module _ (f : Fdt) (v : Valid f) (p now : ℕ) where
+module _ (f : Fdt) (v : ValidFdt f) (p now : ℕ) where
   -- in transfer from now on: the slot that was taken, and those that were
   pub taken-sent : (j : ℕ) → sends (slot-at (taken-of p now f .fdt .slots) j) ≡ (is-taken (taken-of p now f .answer) j || sends (slot-at (f .slots) j))
   unfolding started-life
@@ -70,7 +70,7 @@ module _ (f : Fdt) (v : Valid f) (p now : ℕ) where
 
 -- ---- done
 
-module _ (f : Fdt) (v : Valid f) (now k : ℕ) where
+module _ (f : Fdt) (v : ValidFdt f) (now k : ℕ) where
   -- in transfer from now on: those that were, but slot k
   pub done-sent : (j : ℕ) → sends (slot-at (done-of now k f .slots) j) ≡ (not (eqb k j) && sends (slot-at (f .slots) j))
   unfolding done-life
@@ -104,7 +104,7 @@ module _ (f : Fdt) (v : Valid f) (now k : ℕ) where
 -- ---- every other call; remove and trigger say it in their views
 
 module _ (f : Fdt) where
-  pub added-sent : Valid f → (q : Request) (named : Named) → SentSame f (added-of f q named .fdt)
+  pub added-sent : ValidFdt f → (q : Request) (named : Named) → SentSame f (added-of f q named .fdt)
   added-sent v q named = go (added-of f q named) (added-view f v q named)
     where
       go : (r : Added) → ListAdds f q (own-of (q .own) (f .settings .sizes)) named r → SentSame f (r .fdt)
@@ -124,7 +124,7 @@ module _ (f : Fdt) where
   completed-sent j = refl
 
   -- publishing
-  announced-sent : (a : Announcer) → SentSame f (announced f a)
+  announced-sent : (a : Announcer) → SentSame f (with-published f a)
   announced-sent a j = ap sends (published-at (f .slots) j) ∙ marks-slot (slot-at (f .slots) j) .sent
 
   pub publish-sent : (now : ℕ) (c : Part) → SentSame f (publish-of now c f .fdt)
@@ -137,7 +137,7 @@ module _ (f : Fdt) where
   pub next-fdt-sent : (now : ℕ) (draft : Draft) → SentSame f (next-fdt-of now draft f .fdt)
   unfolding next-fdt-of
   next-fdt-sent now draft =
-      let n = next-of (fdt-rule (f .settings .«from_start») (f .settings .interval)) (f .settings .validity) now draft (f .announcer) in
+      let n = next-of (fdt-plan-of (f .settings .«from_start») (f .settings .interval)) (f .settings .validity) now draft (f .announcer) in
       if-on (SentSame f) (n .taken) (λ e. announced-sent (n .announcer)) (λ e j. refl)
 
   pub fdt-done-sent : (now : ℕ) → SentSame f (fdt-done-of now f)

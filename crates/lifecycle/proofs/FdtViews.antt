@@ -19,7 +19,7 @@ use Rattle.sizes.proofs.Collects.{adds, at-inside, collect-set, collect-at}
 use Rattle.sizes.proofs.AllocatorViews.{held-split, freed-view}
 use Rattle.lifecycle.specs.FileDesc.{startable-file}
 use Rattle.lifecycle.specs.Slots.{no-slot, slot-at, queue-startable, published-slot}
-use Rattle.lifecycle.specs.FdtCalls.{file-at, waiting, files, sends, used, waits, Valid, with-slots, with-objects, taken-at, taken-of, goes-back, back-of, let-go-of, done-of}
+use Rattle.lifecycle.specs.FdtCalls.{file-at, waiting, files, sends, used, waits, ValidFdt, with-slots, with-objects, taken-at, taken-of, goes-back, back-of, let-go-of, done-of}
 use Rattle.lifecycle.specs.FdtCalls.{started-slot, ended-slot}
 use Rattle.lifecycle.proofs.FdtMeans.{Listed, Seen, Takes, nothing, takes, Ends, idle, back, gone, published-file}
 use Rattle.lifecycle.specs.declared.slots.Slot.{Slot}
@@ -65,7 +65,7 @@ no-right false b e f = absurd (false≢true f)
 
 -- ---- numbers are distinct
 
-module _ (f : Fdt) (v : Valid f) where
+module _ (f : Fdt) (v : ValidFdt f) where
   -- two held objects do not have one number
   pub apart : (j k : ℕ) → used (slot-at (f .slots) j) ≡ true → used (slot-at (f .slots) k) ≡ true → file-at (f .slots) j .toi ≡ file-at (f .slots) k .toi → j ≡ k
   apart j k a b e = go (tested (eqb k j))
@@ -109,7 +109,7 @@ at-each P k h o j = go (tested (eqb k j))
     go (pass e) = subst P (eqb-true k j e) h
     go (fail e) = o j e
 
-module _ (f : Fdt) (v : Valid f) (k : ℕ) (inn : k < length (f .slots)) (w : Slot) (a : ToiAllocator) where
+module _ (f : Fdt) (v : ValidFdt f) (k : ℕ) (inn : k < length (f .slots)) (w : Slot) (a : ToiAllocator) where
   -- it does not wait, and the queue stays
   pub seen-aside : waits (slot-at (f .slots) k) ≡ false → Seen f (files f) k w (with-objects f a (set (f .slots) k w) (f .queue) (f .queued))
   seen-aside e = record {
@@ -143,7 +143,7 @@ module _ (f : Fdt) (v : Valid f) (k : ℕ) (inn : k < length (f .slots)) (w : Sl
 
 -- ---- take
 
-module _ (f : Fdt) (v : Valid f) where
+module _ (f : Fdt) (v : ValidFdt f) where
   pub startable-place : (p now : ℕ) → place (startable-file p now) (files f) ≡ place (queue-startable (f .slots) p now) (waiting f)
   unfolding queue-startable
   startable-place p now = place-map (startable-file p now) (file-at (f .slots)) (waiting f)
@@ -165,7 +165,7 @@ module _ (f : Fdt) (v : Valid f) where
 
 -- ---- done
 
-pub done-view : (f : Fdt) → Valid f → (now k : ℕ) → Ends now k f (done-of now k f)
+pub done-view : (f : Fdt) → ValidFdt f → (now k : ℕ) → Ends now k f (done-of now k f)
 unfolding done-of back-of let-go-of
 done-view f v now k =
     let y = slot-at (f .slots) k in
@@ -184,7 +184,7 @@ pub published-at : (t : List Slot) (k : ℕ) → slot-at (map published-slot t) 
 unfolding published-slot
 published-at t k = List·getD-map published-slot t k no-slot
 
-pub published-view : (f : Fdt) → Valid f → files (with-slots f (map published-slot (f .slots))) ≡ map published-file (files f)
+pub published-view : (f : Fdt) → ValidFdt f → files (with-slots f (map published-slot (f .slots))) ≡ map published-file (files f)
 unfolding published-slot
 published-view f v = map-two (file-at (map published-slot (f .slots))) (file-at (f .slots)) published-file (waiting f) (λ k u.
     let y = slot-at (f .slots) k in

@@ -17,8 +17,8 @@ use Rattle.lifecycle.specs.Setup.{bad-blocks}
 use Rattle.lifecycle.specs.Parts.{past-store}
 use Rattle.lifecycle.specs.FileDesc.{with-life, reset-life}
 use Rattle.lifecycle.specs.Slots.{no-slot, slot-at, holds-byte, published-slot}
-use Rattle.lifecycle.specs.Announce.{fdt-rule, next-of}
-use Rattle.lifecycle.specs.FdtCalls.{sends, used, Valid, with-slots, reserved-of, released-of, own-of, bad-part-of, new-slot, refusal, added-of, listed-place, removed-of, triggered-of, taken-of, done-of, publish-of, next-fdt-of, fdt-done-of}
+use Rattle.lifecycle.specs.Announce.{fdt-plan-of, next-of}
+use Rattle.lifecycle.specs.FdtCalls.{sends, used, ValidFdt, with-slots, reserved-of, released-of, own-of, bad-part-of, new-slot, refusal, added-of, listed-place, removed-of, triggered-of, taken-of, done-of, publish-of, next-fdt-of, fdt-done-of}
 use Rattle.lifecycle.proofs.FdtMeans.{Seen, ListAdds, refused, admits, unknown, full, Removal, nobody, sent, waited, Takes, nothing, takes, Ends, idle, back, gone}
 use Rattle.lifecycle.specs.declared.parts.Part.{Part}
 use Rattle.lifecycle.specs.declared.filedesc.Time.{Time}
@@ -30,7 +30,7 @@ use Rattle.lifecycle.specs.declared.fdt.Fdt.{Fdt}
 use Rattle.lifecycle.specs.declared.fdt.Request.{Request}
 use Rattle.lifecycle.specs.declared.fdt.Named.{Named}
 use Rattle.lifecycle.specs.declared.fdt.Added.{Added}
-use Rattle.lifecycle.specs.declared.fdt.Told.{Told}
+use Rattle.lifecycle.specs.declared.fdt.Touched.{Touched}
 use Rattle.lifecycle.specs.declared.fdt.Taken.{Taken}
 use Rattle.lifecycle.specs.declared.fdt.Published.{Published}
 use Rattle.lifecycle.proofs.PartLaws.{lies-in}
@@ -82,14 +82,14 @@ module _ (P : FileDesc → Type 0) (lives : (o : FileDesc) (x : Life) → P o �
   unfolding released-of
   released-held t = h
 
-  pub taken-held : Valid f → (p now : ℕ) → EachHeld P (taken-of p now f .fdt)
+  pub taken-held : ValidFdt f → (p now : ℕ) → EachHeld P (taken-of p now f .fdt)
   taken-held v p now = by (taken-of p now f) (taken-view f v p now)
     where
       by : (r : Taken) → Takes p now f r → EachHeld P (r .fdt)
       by r (nothing n e) = subst (λ (x : Taken). EachHeld P (x .fdt)) (sym e) h
       by r (takes n k t w a s) = let y = slot-at (f .slots) k in seen-held (r .fdt) s (λ u. lives (y .file) _ (h k (used-listed y (w .is-listed))))
 
-  pub done-held : Valid f → (now k : ℕ) → EachHeld P (done-of now k f)
+  pub done-held : ValidFdt f → (now k : ℕ) → EachHeld P (done-of now k f)
   done-held v now k = by (done-of now k f) (done-view f v now k)
     where
       by : (r : Fdt) → Ends now k f r → EachHeld P r
@@ -97,17 +97,17 @@ module _ (P : FileDesc → Type 0) (lives : (o : FileDesc) (x : Life) → P o �
       by r (back s g t w) = let y = slot-at (f .slots) k in seen-held r w (λ u. lives (y .file) _ (h k (used-sends y s)))
       by r (gone s g t w) = seen-held r w free-held
 
-  pub removed-held : Valid f → (t : ℕ) → EachHeld P (removed-of t f .fdt)
+  pub removed-held : ValidFdt f → (t : ℕ) → EachHeld P (removed-of t f .fdt)
   removed-held v t = by (removed-of t f) (removed-cases t f v)
     where
-      by : (r : Told) → Removal t f r → EachHeld P (r .fdt)
-      by r (nobody c) = subst (λ (x : Told). EachHeld P (x .fdt)) (sym (c .unchanged)) h
+      by : (r : Touched) → Removal t f r → EachHeld P (r .fdt)
+      by r (nobody c) = subst (λ (x : Touched). EachHeld P (x .fdt)) (sym (c .unchanged)) h
       by r (sent k c) = seen-held (r .fdt) (c .view) (λ u. h k (used-sends (slot-at (f .slots) k) (c .is-sent)))
       by r (waited k n c) = seen-held (r .fdt) (c .view) free-held
 
   pub triggered-held : (t : ℕ) (start : Time) → EachHeld P (triggered-of t start f .fdt)
   unfolding triggered-of
-  triggered-held t start = maybe-on (λ (x : Told). EachHeld P (x .fdt)) (listed-place t f) (λ e. h) (λ k e.
+  triggered-held t start = maybe-on (λ (x : Touched). EachHeld P (x .fdt)) (listed-place t f) (λ e. h) (λ k e.
       let y = slot-at (f .slots) k in
       let li = listed-at t f k e in
       let w : Slot = record { holders = y .holders; listed = y .listed; file = with-life (y .file) (reset-life start (y .file .life)) } in
@@ -124,7 +124,7 @@ module _ (P : FileDesc → Type 0) (lives : (o : FileDesc) (x : Life) → P o �
 
   pub next-fdt-held : (now : ℕ) (draft : Draft) → EachHeld P (next-fdt-of now draft f .fdt)
   unfolding next-fdt-of
-  next-fdt-held now draft = if-on (EachHeld P) (next-of (fdt-rule (f .settings .«from_start») (f .settings .interval)) (f .settings .validity) now draft (f .announcer) .taken) (λ e. marked-held) (λ e. h)
+  next-fdt-held now draft = if-on (EachHeld P) (next-of (fdt-plan-of (f .settings .«from_start») (f .settings .interval)) (f .settings .validity) now draft (f .announcer) .taken) (λ e. marked-held) (λ e. h)
 
   pub fdt-done-held : (now : ℕ) → EachHeld P (fdt-done-of now f)
   unfolding fdt-done-of
@@ -135,7 +135,7 @@ module _ (P : FileDesc → Type 0) (lives : (o : FileDesc) (x : Life) → P o �
     abbrev z : Sizes
     z = own-of (q .own) (f .settings .sizes)
 
-    pub added-held : Valid f → ((t : ℕ) → bad-blocks z (q .part .size) ≡ false → bad-part-of f (q .part) ≡ false → P (new-slot q z t .file)) → EachHeld P (added-of f q named .fdt)
+    pub added-held : ValidFdt f → ((t : ℕ) → bad-blocks z (q .part .size) ≡ false → bad-part-of f (q .part) ≡ false → P (new-slot q z t .file)) → EachHeld P (added-of f q named .fdt)
     added-held v new = by (added-of f q named) (refusal-view f q named) (added-view f v q named)
       where
         first-none : (n : Refusal) (b : Bool) {o : Option Refusal} → none ≡ (if b then some n else o) → (b ≡ false) × (none ≡ o)

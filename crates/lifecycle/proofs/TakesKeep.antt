@@ -9,7 +9,7 @@ use Rattle.sizes.specs.declared.toiallocator.ToiAllocator.{ToiAllocator}
 use Rattle.lifecycle.specs.Lifecycle.{finished, expired, may-start}
 use Rattle.lifecycle.specs.FileDesc.{plan-of, life-of, started-life, startable-file}
 use Rattle.lifecycle.specs.Slots.{slot-at, queue-startable}
-use Rattle.lifecycle.specs.FdtCalls.{waiting, sends, Valid, started-slot, taken-at, taken-of, goes-back, done-of}
+use Rattle.lifecycle.specs.FdtCalls.{waiting, sends, ValidFdt, started-slot, taken-at, taken-of, goes-back, done-of}
 use Rattle.lifecycle.proofs.FdtMeans.{Ends, idle, back, gone}
 use Rattle.lifecycle.specs.declared.filedesc.FileDesc.{FileDesc}
 use Rattle.lifecycle.specs.declared.slots.Slot.{Slot}
@@ -21,7 +21,7 @@ use Rattle.lifecycle.proofs.FdtViews.{done-view}
 use Rattle.lifecycle.proofs.FdtKeeps.{SameNumbers}
 
 -- what is not in transfer may be taken where its life says so
-pub startable-as : (p now : ℕ) (o : FileDesc) → o .life .transferring ≡ false → startable-file p now o ≡ (eqb (o .priority) p && may-start (plan-of (o .rule)) now (life-of (o .life)))
+pub startable-as : (p now : ℕ) (o : FileDesc) → o .life .transferring ≡ false → startable-file p now o ≡ (eqb (o .priority) p && may-start (plan-of (o .plan)) now (life-of (o .life)))
 unfolding startable-file
 startable-as p now o e = rw e
 
@@ -31,15 +31,15 @@ unfolding started-life
 started-sends now y = refl
 
 -- at the end of its transfer it goes back while it is listed and not expired
-pub goes-back-as : (now : ℕ) (y : Slot) → goes-back now y ≡ (y .listed && not (expired (plan-of (y .file .rule)) (finished now (life-of (y .file .life)))))
+pub goes-back-as : (now : ℕ) (y : Slot) → goes-back now y ≡ (y .listed && not (expired (plan-of (y .file .plan)) (finished now (life-of (y .file .life)))))
 unfolding goes-back
-goes-back-as now y = ap (λ x. y .listed && not (expired (plan-of (y .file .rule)) x)) (life-done now (y .file .life))
+goes-back-as now y = ap (λ x. y .listed && not (expired (plan-of (y .file .plan)) x)) (life-done now (y .file .life))
 
 pub taken-numbers : (f : Fdt) (p now : ℕ) → SameNumbers f (taken-of p now f .fdt)
 unfolding taken-of taken-at
 taken-numbers f p now = maybe-on (λ (t : Taken). SameNumbers f (t .fdt)) (place (queue-startable (f .slots) p now) (waiting f)) (λ e. record { next = refl; loose = refl }) (λ n e. record { next = refl; loose = refl })
 
-module _ (f : Fdt) (v : Valid f) (now k : ℕ) where
+module _ (f : Fdt) (v : ValidFdt f) (now k : ℕ) where
   pub done-numbers : SameNumbers f (done-of now k f)
   done-numbers = by (done-of now k f) (done-view f v now k)
     where

@@ -34,7 +34,7 @@ use Rattle.lifecycle.specs.declared.fdt.Admission.the-variants as Admiss
 use Rattle.lifecycle.specs.declared.fdt.Added.{Added}
 use Rattle.lifecycle.specs.declared.fdt.Reserved.{Reserved}
 use Rattle.lifecycle.specs.declared.fdt.Released.{Released}
-use Rattle.lifecycle.specs.declared.fdt.Told.{Told}
+use Rattle.lifecycle.specs.declared.fdt.Touched.{Touched}
 use Rattle.lifecycle.specs.declared.fdt.Transfers.{Transfers}
 use Rattle.lifecycle.specs.declared.fdt.Transfers.the-variants.{Total, NotListed}
 use Rattle.lifecycle.specs.declared.fdt.Taken.{Taken}
@@ -43,13 +43,13 @@ use Rattle.lifecycle.specs.declared.fdt.Publication.the-variants as Publ
 use Rattle.lifecycle.specs.declared.fdt.Published.{Published}
 use Rattle.lifecycle.specs.declared.fdt.DraftTest.{DraftTest}
 use Rattle.lifecycle.specs.declared.fdt.DraftTest.the-variants as DraftTestV
-use Rattle.lifecycle.specs.declared.fdt.NextOf.{NextOf}
+use Rattle.lifecycle.specs.declared.fdt.NextFdt.{NextFdt}
 use Rattle.lifecycle.specs.declared.fdt.Settings.{Settings}
 use Rattle.lifecycle.specs.declared.announce.Announcer.{Announcer}
 use Rattle.lifecycle.specs.declared.announce.Draft.{Draft}
 use Rattle.lifecycle.specs.declared.announce.Draft.the-variants as DraftV
 use Rattle.lifecycle.specs.Announce as Ann
-use Rattle.lifecycle.specs.Announce.{FdtValid, fdt-rule, queued-of, next-of, bad-fdt-of, opening-of}
+use Rattle.lifecycle.specs.Announce.{ValidAnnouncer, fdt-plan-of, queued-of, next-of, bad-fdt-of, new-announcer}
 
 -- ---- what the records mean
 
@@ -85,8 +85,8 @@ pub record Tidy (v : Slot) : Type 0 where
   pub zeroed : used v ≡ false → v ≡ no-slot
 
 -- what set-up and every call give back, and the only premise of a call
-pub record Valid (f : Fdt) : Type 0 where
-  pub tois : Alloc.Valid (f .tois)
+pub record ValidFdt (f : Fdt) : Type 0 where
+  pub tois : Alloc.ValidAllocator (f .tois)
   pub slots-long : length (f .slots) ≡ object-slots
   pub queue-long : length (f .queue) ≡ object-slots
   pub queued : f .queued ≤ object-slots
@@ -97,7 +97,7 @@ pub record Valid (f : Fdt) : Type 0 where
   pub tidy : (k : ℕ) → Tidy (slot-at (f .slots) k)
   -- the numbers that objects hold are those of the held objects
   pub owned : (n : ℕ) → times n (Alloc.bound (f .tois)) ≡ times n (used-tois (f .slots))
-  pub fdts : FdtValid (f .announcer)
+  pub fdts : ValidAnnouncer (f .announcer)
 
 -- ---- changes
 
@@ -133,7 +133,7 @@ bad-part-of f c = past-store (f .settings .«object_store») c || any (holds-byt
 
 -- the slot of a new object with number t
 abbrev pub new-slot : Request → Sizes → ℕ → Slot
-new-slot q z t = record { holders = 1; listed = true; file = file-new t (q .priority) (q .part) z (q .rule) (q .start) }
+new-slot q z t = record { holders = 1; listed = true; file = file-new t (q .priority) (q .part) z (q .plan) (q .start) }
 
 -- a new object in slot k, at the queue's end
 unfoldable pub put-of : Fdt → ℕ → ℕ → Request → Sizes → Fdt
@@ -202,14 +202,14 @@ unlisted-of f k = with-slots f (set (f .slots) k (unlisted-slot (slot-at (f .slo
 unfoldable pub freed-of : Fdt → ℕ → ℕ → ℕ → Fdt
 freed-of f t k n = with-objects f (Alloc.dropped-of false t (f .tois) .allocator) (set (f .slots) k no-slot) (shut 0 (f .queue) n) (f .queued - 1)
 
-unfoldable pub removed-of : ℕ → Fdt → Told
+unfoldable pub removed-of : ℕ → Fdt → Touched
 removed-of t f = maybe (record { yes = false; fdt = f }) (λ k. record {
   yes = true;
   fdt = if sends (slot-at (f .slots) k) then unlisted-of f k else maybe f (freed-of f t k) (place (λ j. eqb j k) (waiting f));
 }) (listed-place t f)
 
 -- trigger touches an object that is not in transfer
-unfoldable pub triggered-of : ℕ → Time → Fdt → Told
+unfoldable pub triggered-of : ℕ → Time → Fdt → Touched
 triggered-of t start f = maybe (record { yes = false; fdt = f }) (λ k. record {
   yes = true;
   fdt =
@@ -221,7 +221,7 @@ triggered-of t start f = maybe (record { yes = false; fdt = f }) (λ k. record {
 
 -- the slot once its transfer has started
 abbrev pub started-slot : ℕ → Slot → Slot
-started-slot now y = record { holders = y .holders + 1; listed = y .listed; file = with-life (y .file) (started-life (y .file .rule) now (y .file .life)) }
+started-slot now y = record { holders = y .holders + 1; listed = y .listed; file = with-life (y .file) (started-life (y .file .plan) now (y .file .life)) }
 
 -- slot k, at place n of the queue, is taken by a session
 unfoldable pub taken-at : ℕ → Fdt → ℕ → ℕ → Fdt
@@ -239,7 +239,7 @@ ended-file now v = with-life (v .file) (done-life now (v .file .life))
 
 -- is it sent again: still listed, and not expired
 unfoldable pub goes-back : ℕ → Slot → Bool
-goes-back now v = v .listed && not (expired (plan-of (v .file .rule)) (life-of (ended-file now v .life)))
+goes-back now v = v .listed && not (expired (plan-of (v .file .plan)) (life-of (ended-file now v .life)))
 
 -- the slot once its transfer has ended
 abbrev pub ended-slot : ℕ → Slot → Slot
@@ -264,8 +264,8 @@ done-of now k f =
 -- ---- the FDT side
 
 -- a new FDT side; a publish marks every listed object
-abbrev pub announced : Fdt → Announcer → Fdt
-announced f a = record { settings = f .settings; complete = f .complete; tois = f .tois; slots = map published-slot (f .slots); queue = f .queue; queued = f .queued; announcer = a }
+abbrev pub with-published : Fdt → Announcer → Fdt
+with-published f a = record { settings = f .settings; complete = f .complete; tois = f .tois; slots = map published-slot (f .slots); queue = f .queue; queued = f .queued; announcer = a }
 
 abbrev pub with-announcer : Fdt → Announcer → Fdt
 with-announcer f a = record { settings = f .settings; complete = f .complete; tois = f .tois; slots = f .slots; queue = f .queue; queued = f .queued; announcer = a }
@@ -286,7 +286,7 @@ publish-of now c f =
     if bad-blocks (f .settings .sizes) (c .size) then record { answer = PublicationV.Refused Because.Sizes; fdt = f }
     else if bad-fdt-of (f .settings .«fdt_store») c (f .announcer) || eqb (c .size) 0 then record { answer = PublicationV.Refused Because.Part; fdt = f }
     else if leb waiting-fdts (f .announcer .waiting) then record { answer = PublicationV.Refused Because.Full; fdt = f }
-    else record { answer = PublicationV.Done; fdt = announced f (queued-of now c (f .announcer)) }
+    else record { answer = PublicationV.Done; fdt = with-published f (queued-of now c (f .announcer)) }
 
 -- what the test of a draft says
 abbrev pub draft-said : DraftTest → Option Refusal
@@ -303,13 +303,13 @@ draft-test-of DraftV.Missing f = none
 draft-test-of (DraftV.Given c) f = first-of ((Because.Sizes, bad-blocks (f .settings .sizes) (c .size)) ∷ (Because.Part, bad-fdt-of (f .settings .«fdt_store») c (f .announcer)) ∷ [])
 
 -- the next FDT; a draft that is taken is published, and so marks every listed object
-unfoldable pub next-fdt-of : ℕ → Draft → Fdt → NextOf
+unfoldable pub next-fdt-of : ℕ → Draft → Fdt → NextFdt
 next-fdt-of now draft f =
-    let r = next-of (fdt-rule (f .settings .«from_start») (f .settings .interval)) (f .settings .validity) now draft (f .announcer) in
-    record { taken = r .taken; starts = r .starts; fdt = if r .taken then announced f (r .announcer) else with-announcer f (r .announcer) }
+    let r = next-of (fdt-plan-of (f .settings .«from_start») (f .settings .interval)) (f .settings .validity) now draft (f .announcer) in
+    record { taken = r .taken; starts = r .starts; fdt = if r .taken then with-published f (r .announcer) else with-announcer f (r .announcer) }
 
 unfoldable pub fdt-done-of : ℕ → Fdt → Fdt
-fdt-done-of now f = with-announcer f (Ann.done-of now (f .announcer))
+fdt-done-of now f = with-announcer f (Ann.current-done now (f .announcer))
 
 -- before the first call
 unfoldable pub opening-fdt : Settings → ToiAllocator → ℕ → Fdt
@@ -320,5 +320,5 @@ opening-fdt z a id = record {
   slots = replicate object-slots no-slot;
   queue = replicate object-slots 0;
   queued = 0;
-  announcer = opening-of id;
+  announcer = new-announcer id;
 }

@@ -6,7 +6,7 @@ use lib.Dec.{eqb}
 use lib.ListN.{getD}
 use Rattle.sizes.specs.Words.{if_then_else_}
 use Rattle.lifecycle.specs.Parts.{shares}
-use Rattle.lifecycle.specs.FileDesc.{no-time, unborn-of, plain-rule, with-life, published-life, startable-file}
+use Rattle.lifecycle.specs.FileDesc.{no-time, unborn-of, plain-plan, with-life, published-life, startable-file}
 use Rattle.lifecycle.specs.declared.parts.Part.{Part}
 use Rattle.lifecycle.specs.declared.filedesc.FileDesc.{FileDesc}
 use Rattle.lifecycle.specs.declared.slots.Slot.{Slot}
@@ -18,7 +18,7 @@ no-file = record {
   priority = 0;
   part = record { start = 0; size = 0 };
   sizes = record { e = 0; b = 0 };
-  rule = plain-rule 0 false;
+  plan = plain-plan 0 false;
   life = unborn-of no-time;
 }
 

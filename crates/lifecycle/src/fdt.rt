@@ -8,15 +8,15 @@ ghost use Rattle.sizes.specs.Words.{place, shut, within, Each};
 ghost use Rattle.sizes.specs.Limits.{object-slots};
 ghost use Rattle.sizes.specs.Place.{place-said};
 ghost use Rattle.lifecycle.specs.Setup.{sound-sizes, bad-blocks};
-ghost use Rattle.lifecycle.specs.FdtCalls.{own-of, bad-part-of, put-of, reserved-of, released-of, fresh-of, named-of, added-of, is-added-of, transfers-of, transfers-said, unlisted-of, freed-of, removed-of, triggered-of, taken-at, taken-of, back-of, let-go-of, done-of, completed-of, Valid};
+ghost use Rattle.lifecycle.specs.FdtCalls.{own-of, bad-part-of, put-of, reserved-of, released-of, fresh-of, named-of, added-of, is-added-of, transfers-of, transfers-said, unlisted-of, freed-of, removed-of, triggered-of, taken-at, taken-of, back-of, let-go-of, done-of, completed-of, ValidFdt};
 ghost use Rattle.lifecycle.specs.Slots.{slot-at, queue-startable};
 ghost use Rattle.lifecycle.specs.Announce.{waits-of};
-ghost use Rattle.lifecycle.specs.FdtCalls.{announced as announced-of, opening-fdt, publish-of, draft-said, real-draft, draft-test-of, next-fdt-of, fdt-done-of};
+ghost use Rattle.lifecycle.specs.FdtCalls.{with-published as announced-of, opening-fdt, publish-of, draft-said, real-draft, draft-test-of, next-fdt-of, fdt-done-of};
 use crate::announce::Announcer;
 use crate::announce::Draft;
-use crate::announce::fdt_rule;
+use crate::announce::fdt_plan;
 use crate::filedesc::FileDesc;
-use crate::filedesc::Rule;
+use crate::filedesc::Plan;
 use crate::filedesc::Time;
 use crate::parts::Part;
 use crate::parts::ends_past;
@@ -80,7 +80,7 @@ pub struct Request {
     pub priority: u32,
     pub part: Part,
     pub own: Own,
-    pub rule: Rule,
+    pub plan: Plan,
     pub start: Time,
 }
 
@@ -106,7 +106,7 @@ pub struct Released {
 }
 
 // Yes or no.
-pub struct Told {
+pub struct Touched {
     pub yes: bool,
     pub fdt: Fdt,
 }
@@ -141,7 +141,7 @@ pub enum DraftTest {
 }
 
 // What asking for the next FDT comes to: was the draft taken, and does the current FDT start now?
-pub struct NextOf {
+pub struct NextFdt {
     pub taken: bool,
     pub starts: bool,
     pub fdt: Fdt,
@@ -262,7 +262,7 @@ impl Fdt {
 
     // A number is reserved.
     pub fn allocate_toi(mut self) -> Reserved
-        requires { ⌜ Valid self ⌝ }
+        requires { ⌜ ValidFdt self ⌝ }
         ensures { λ r. ⌜ r ≡ reserved-of self ⌝ }
     {
         let r = self.tois.allocate(true);
@@ -274,7 +274,7 @@ impl Fdt {
 
     // A loose reservation is let go.
     pub fn release_toi(mut self, toi: u64) -> Released
-        requires { ⌜ Valid self ⌝ }
+        requires { ⌜ ValidFdt self ⌝ }
         ensures { λ r. ⌜ r ≡ released-of toi self ⌝ }
     {
         let r = self.tois.release(toi);
@@ -289,7 +289,7 @@ impl Fdt {
         requires { ⌜ (k < object-slots) × (self .queued < object-slots) ⌝ }
         ensures { λ r. ⌜ r ≡ put-of self k toi q z ⌝ }
     {
-        let file = FileDesc::new(toi, q.priority, q.part, z, q.rule, q.start);
+        let file = FileDesc::new(toi, q.priority, q.part, z, q.plan, q.start);
         let mut slots = self.slots;
         let n = self.queued;
         let mut queue = self.queue;
@@ -307,7 +307,7 @@ impl Fdt {
 
     // An add that names a reservation.
     fn add_named(mut self, q: Request, z: Sizes, toi: u64) -> Added
-        requires { ⌜ Valid self ⌝ }
+        requires { ⌜ ValidFdt self ⌝ }
         ensures { λ r. ⌜ r ≡ named-of self q z toi ⌝ }
     {
         if !self.tois.is_loose(toi) {
@@ -334,7 +334,7 @@ impl Fdt {
 
     // An add that names no reservation.
     fn add_fresh(mut self, q: Request, z: Sizes) -> Added
-        requires { ⌜ Valid self ⌝ }
+        requires { ⌜ ValidFdt self ⌝ }
         ensures { λ r. ⌜ r ≡ fresh-of self q z ⌝ }
     {
         let slots = self.slots;
@@ -363,7 +363,7 @@ impl Fdt {
 
     // An object is admitted, or refused by the first reason of 3 to 7. Whether a session has its priority (2) is asked above.
     pub fn add_object(self, q: Request, named: Named) -> Added
-        requires { ⌜ Valid self ⌝ }
+        requires { ⌜ ValidFdt self ⌝ }
         ensures { λ r. ⌜ r ≡ added-of self q named ⌝ }
     {
         if self.complete {
@@ -405,7 +405,7 @@ impl Fdt {
 
     // The total transfers of the listed object with this number.
     pub fn nb_transfers(self, toi: u64) -> Transfers
-        requires { ⌜ Valid self ⌝ }
+        requires { ⌜ ValidFdt self ⌝ }
         ensures { λ r. ⌜ transfers-said r ≡ transfers-of toi self ⌝ }
     {
         let slots = self.slots;
@@ -417,7 +417,7 @@ impl Fdt {
 
     // The list lets go of slot k, which a session sends.
     fn unlisted(mut self, k: usize) -> Fdt
-        requires { ⌜ Valid self × (k < object-slots) × (0 < slot-at (self .slots) k .holders) ⌝ }
+        requires { ⌜ ValidFdt self × (k < object-slots) × (0 < slot-at (self .slots) k .holders) ⌝ }
         ensures { λ r. ⌜ r ≡ unlisted-of self k ⌝ }
     {
         let mut slots = self.slots;
@@ -429,7 +429,7 @@ impl Fdt {
 
     // Slot k, which waits at place n of the queue, is free.
     fn freed(mut self, toi: u64, k: usize, n: usize) -> Fdt
-        requires { ⌜ Valid self × (k < object-slots) × (n < self .queued) ⌝ }
+        requires { ⌜ ValidFdt self × (k < object-slots) × (n < self .queued) ⌝ }
         ensures { λ r. ⌜ r ≡ freed-of self toi k n ⌝ }
     {
         let mut slots = self.slots;
@@ -445,53 +445,53 @@ impl Fdt {
     }
 
     // The listed object with this number leaves the list; a session that sends it keeps it.
-    pub fn remove_object(mut self, toi: u64) -> Told
-        requires { ⌜ Valid self ⌝ }
+    pub fn remove_object(mut self, toi: u64) -> Touched
+        requires { ⌜ ValidFdt self ⌝ }
         ensures { λ r. ⌜ r ≡ removed-of toi self ⌝ }
     {
         let slots = self.slots;
         let Place::At(k) = listed_slot(slots, toi) else {
-            return Told {
+            return Touched {
                 yes: false,
                 fdt: self,
             };
         };
         if slots[k].file.life.transferring {
             self = self.unlisted(k);
-            return Told {
+            return Touched {
                 yes: true,
                 fdt: self,
             };
         }
         let queue = self.queue;
         let Place::At(n) = queue_place(queue, self.queued, k) else {
-            return Told {
+            return Touched {
                 yes: true,
                 fdt: self,
             };
         };
         self = self.freed(toi, k, n);
-        Told {
+        Touched {
             yes: true,
             fdt: self,
         }
     }
 
     // A listed object that is not in transfer may start anew.
-    pub fn trigger_transfer_at(mut self, toi: u64, start: Time) -> Told
-        requires { ⌜ Valid self ⌝ }
+    pub fn trigger_transfer_at(mut self, toi: u64, start: Time) -> Touched
+        requires { ⌜ ValidFdt self ⌝ }
         ensures { λ r. ⌜ r ≡ triggered-of toi start self ⌝ }
     {
         let mut slots = self.slots;
         let Place::At(k) = listed_slot(slots, toi) else {
-            return Told {
+            return Touched {
                 yes: false,
                 fdt: self,
             };
         };
         let mut v = slots[k];
         if v.file.life.transferring {
-            return Told {
+            return Touched {
                 yes: true,
                 fdt: self,
             };
@@ -499,7 +499,7 @@ impl Fdt {
         v.file = v.file.reset_last_transfer(start);
         slots[k] = v;
         self.slots = slots;
-        Told {
+        Touched {
             yes: true,
             fdt: self,
         }
@@ -515,7 +515,7 @@ impl Fdt {
 
     // Slot k, at place n of the queue, is taken by a session.
     fn taken(mut self, now: u64, n: usize, k: usize) -> Fdt
-        requires { ⌜ Valid self × (k < object-slots) × (n < self .queued) ⌝ }
+        requires { ⌜ ValidFdt self × (k < object-slots) × (n < self .queued) ⌝ }
         ensures { λ r. ⌜ r ≡ taken-at now self n k ⌝ }
     {
         let mut slots = self.slots;
@@ -533,7 +533,7 @@ impl Fdt {
 
     // The first object in the queue that a session of this priority may start, taken.
     pub fn get_next_file_transfer(mut self, priority: u32, now: u64) -> Taken
-        requires { ⌜ Valid self ⌝ }
+        requires { ⌜ ValidFdt self ⌝ }
         ensures { λ r. ⌜ r ≡ taken-of priority now self ⌝ }
     {
         let slots = self.slots;
@@ -554,7 +554,7 @@ impl Fdt {
 
     // Slot k, whose transfer has ended, goes to the queue's end.
     fn back(mut self, now: u64, k: usize) -> Fdt
-        requires { ⌜ Valid self × (k < object-slots) × (self .queued < object-slots) × (0 < slot-at (self .slots) k .holders) ⌝ }
+        requires { ⌜ ValidFdt self × (k < object-slots) × (self .queued < object-slots) × (0 < slot-at (self .slots) k .holders) ⌝ }
         ensures { λ r. ⌜ r ≡ back-of now self k ⌝ }
     {
         let mut slots = self.slots;
@@ -573,7 +573,7 @@ impl Fdt {
 
     // Slot k is free, and its number too.
     fn let_go(mut self, k: usize) -> Fdt
-        requires { ⌜ Valid self × (k < object-slots) ⌝ }
+        requires { ⌜ ValidFdt self × (k < object-slots) ⌝ }
         ensures { λ r. ⌜ r ≡ let-go-of self k ⌝ }
     {
         let mut slots = self.slots;
@@ -586,7 +586,7 @@ impl Fdt {
 
     // The session that sends slot k is done with it: it is sent again, or let go.
     pub fn transfer_done(self, k: usize, now: u64) -> Fdt
-        requires { ⌜ Valid self ⌝ }
+        requires { ⌜ ValidFdt self ⌝ }
         ensures { λ r. ⌜ r ≡ done-of now k self ⌝ }
     {
         if OBJECT_SLOTS <= k {
@@ -636,7 +636,7 @@ impl Fdt {
 
     // The part is queued as the next FDT, or refused by the first reason of 4, 5 and 7.
     pub fn publish(mut self, now: u64, c: Part) -> Published
-        requires { ⌜ Valid self ⌝ }
+        requires { ⌜ ValidFdt self ⌝ }
         ensures { λ r. ⌜ r ≡ publish-of now c self ⌝ }
     {
         if are_bad_blocks(self.settings.sizes, c.size) {
@@ -673,7 +673,7 @@ impl Fdt {
 
     // Is a draft good for an FDT run? One that is missing is not looked at.
     pub fn test_draft(self, draft: Draft) -> DraftTest
-        requires { ⌜ Valid self ⌝ }
+        requires { ⌜ ValidFdt self ⌝ }
         ensures { λ r. ⌜ draft-said r ≡ draft-test-of draft self ⌝ }
     {
         let Draft::Given(c) = draft else {
@@ -696,24 +696,24 @@ impl Fdt {
     }
 
     // The next FDT, with a draft that is good or missing.
-    pub fn get_next_fdt_transfer(mut self, now: u64, draft: Draft) -> NextOf
-        requires { ⌜ Valid self ⌝ }
+    pub fn get_next_fdt_transfer(mut self, now: u64, draft: Draft) -> NextFdt
+        requires { ⌜ ValidFdt self ⌝ }
         ensures { λ r. ⌜ r ≡ next-fdt-of now draft self ⌝ }
     {
-        let rule = fdt_rule(self.settings.from_start, self.settings.interval);
+        let plan = fdt_plan(self.settings.from_start, self.settings.interval);
         let n = self.announcer
-            .get_next_fdt_transfer(rule, self.settings.validity, now, draft);
+            .get_next_fdt_transfer(plan, self.settings.validity, now, draft);
         let announcer = n.announcer;
         if n.taken {
             self = self.announced(announcer);
-            return NextOf {
+            return NextFdt {
                 taken: true,
                 starts: n.starts,
                 fdt: self,
             };
         }
         self.announcer = announcer;
-        NextOf {
+        NextFdt {
             taken: false,
             starts: n.starts,
             fdt: self,

@@ -6,7 +6,7 @@ ghost use mathlib.Core.Bool.{false};
 ghost use Rattle.sizes.specs.Words.{maybe};
 ghost use Rattle.sizes.specs.Limits.{largest-count, largest-total};
 ghost use Rattle.lifecycle.specs.Lifecycle.{expired, is-last, may-start, may-stop, too-early, round-due};
-ghost use Rattle.lifecycle.specs.FileDesc.{time-of, plan-of, life-of, pace-said, no-time, no-pace, unborn-of, with-life, started-life, done-life, published-life, reset-life, rule-named, with-carousel, with-target, pace-at, ticked-of, file-new, startable-file};
+ghost use Rattle.lifecycle.specs.FileDesc.{time-of, plan-of, life-of, pace-said, no-time, no-pace, unborn-of, with-life, started-life, done-life, published-life, reset-life, plan-named, with-carousel, with-target, pace-at, ticked-of, file-new, startable-file};
 use crate::parts::Part;
 use sizes::limits::LARGEST_COUNT;
 use sizes::limits::LARGEST_TOTAL;
@@ -36,7 +36,7 @@ pub enum Target {
 
 // What is asked of an object: the maximum of transfers, the carousel, the target, and whether it may be stopped at once.
 #[repr(C)]
-pub struct Rule {
+pub struct Plan {
     pub most: u32,
     pub repeats: bool,
     pub from_start: bool,
@@ -66,7 +66,7 @@ pub struct FileDesc {
     pub priority: u32,
     pub part: Part,
     pub sizes: Sizes,
-    pub rule: Rule,
+    pub plan: Plan,
     pub life: Life,
 }
 
@@ -107,7 +107,7 @@ fn is_before(now: u64, t: Time) -> bool
     now < t.at
 }
 
-impl Rule {
+impl Plan {
     // Is the maximum of transfers reached, with no carousel?
     fn is_expired(self, x: Life) -> bool
         ensures { λ r. ⌜ r ≡ expired (plan-of self) (life-of x) ⌝ }
@@ -168,12 +168,12 @@ impl Rule {
     }
 }
 
-impl Rule {
+impl Plan {
     // What is asked, put together from its parts.
-    pub fn new(most: u32, carousel: Carousel, target: Target, stop_at_once: bool) -> Rule
-        ensures { λ r. ⌜ r ≡ rule-named most carousel target «stop_at_once» ⌝ }
+    pub fn new(most: u32, carousel: Carousel, target: Target, stop_at_once: bool) -> Plan
+        ensures { λ r. ⌜ r ≡ plan-named most carousel target «stop_at_once» ⌝ }
     {
-        let plain = Rule {
+        let plain = Plan {
             most,
             repeats: false,
             from_start: false,
@@ -186,7 +186,7 @@ impl Rule {
         plain.with_carousel(carousel).with_target(target)
     }
 
-    fn with_carousel(mut self, c: Carousel) -> Rule
+    fn with_carousel(mut self, c: Carousel) -> Plan
         ensures { λ r. ⌜ r ≡ with-carousel self c ⌝ }
     {
         match c {
@@ -204,7 +204,7 @@ impl Rule {
         self
     }
 
-    fn with_target(mut self, t: Target) -> Rule
+    fn with_target(mut self, t: Target) -> Plan
         ensures { λ r. ⌜ r ≡ with-target self t ⌝ }
     {
         match t {
@@ -307,26 +307,26 @@ impl FileDesc {
         priority: u32,
         part: Part,
         sizes: Sizes,
-        rule: Rule,
+        plan: Plan,
         start: Time,
     ) -> FileDesc
-        ensures { λ r. ⌜ r ≡ file-new toi priority part sizes rule start ⌝ }
+        ensures { λ r. ⌜ r ≡ file-new toi priority part sizes plan start ⌝ }
     {
         FileDesc {
             toi,
             priority,
             part,
             sizes,
-            rule,
+            plan,
             life: Life::new(start),
         }
     }
 
     // A transfer starts.
     pub fn transfer_started(mut self, now: u64) -> FileDesc
-        ensures { λ r. ⌜ r ≡ with-life self (started-life (self .rule) now (self .life)) ⌝ }
+        ensures { λ r. ⌜ r ≡ with-life self (started-life (self .plan) now (self .life)) ⌝ }
     {
-        self.life = self.life.started(self.rule, now);
+        self.life = self.life.started(self.plan, now);
         self
     }
 
@@ -355,16 +355,16 @@ impl FileDesc {
 
     // Is the maximum of transfers reached, with no carousel?
     pub fn is_expired(self) -> bool
-        ensures { λ r. ⌜ r ≡ expired (plan-of (self .rule)) (life-of (self .life)) ⌝ }
+        ensures { λ r. ⌜ r ≡ expired (plan-of (self .plan)) (life-of (self .life)) ⌝ }
     {
-        self.rule.is_expired(self.life)
+        self.plan.is_expired(self.life)
     }
 
     // Is the transfer under way the last one?
     pub fn is_last_transfer(self) -> bool
-        ensures { λ r. ⌜ r ≡ is-last (plan-of (self .rule)) (life-of (self .life)) ⌝ }
+        ensures { λ r. ⌜ r ≡ is-last (plan-of (self .plan)) (life-of (self .life)) ⌝ }
     {
-        self.rule.is_last_transfer(self.life)
+        self.plan.is_last_transfer(self.life)
     }
 
     // May a session of this priority start it now?
@@ -377,21 +377,21 @@ impl FileDesc {
         if self.life.transferring {
             return false;
         }
-        self.rule.may_start_now(self.life, now)
+        self.plan.may_start_now(self.life, now)
     }
 
     // May its transfer be cut short?
     pub fn can_transfer_be_stopped(self) -> bool
-        ensures { λ r. ⌜ r ≡ may-stop (plan-of (self .rule)) (life-of (self .life)) ⌝ }
+        ensures { λ r. ⌜ r ≡ may-stop (plan-of (self .plan)) (life-of (self .life)) ⌝ }
     {
-        self.rule.may_be_stopped(self.life)
+        self.plan.may_be_stopped(self.life)
     }
 
     // The pace of its next transfer, which starts now.
     pub fn pace_from(self, now: u64) -> Pace
-        ensures { λ r. ⌜ r ≡ pace-at (self .rule) now (self .part .size) (self .sizes .e) ⌝ }
+        ensures { λ r. ⌜ r ≡ pace-at (self .plan) now (self .part .size) (self .sizes .e) ⌝ }
     {
-        self.rule.pace(now, self.part.size, self.sizes.e)
+        self.plan.pace(now, self.part.size, self.sizes.e)
     }
 }
 
@@ -413,7 +413,7 @@ impl Life {
     }
 
     // A transfer starts.
-    pub fn started(mut self, r: Rule, now: u64) -> Life
+    pub fn started(mut self, r: Plan, now: u64) -> Life
         ensures { λ s. ⌜ s ≡ started-life r now self ⌝ }
     {
         self.transferring = true;

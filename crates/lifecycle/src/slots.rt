@@ -6,7 +6,7 @@ ghost use Rattle.sizes.specs.Place.{place-said};
 ghost use Rattle.lifecycle.specs.Slots.{no-slot, is-free, is-listed-as, holds-byte, published-slot};
 use crate::filedesc::Carousel;
 use crate::filedesc::FileDesc;
-use crate::filedesc::Rule;
+use crate::filedesc::Plan;
 use crate::filedesc::Target;
 use crate::filedesc::Time;
 use crate::parts::Part;
@@ -28,11 +28,11 @@ pub fn no_slot() -> Slot
 {
     let part = Part { start: 0, size: 0 };
     let sizes = Sizes { e: 0, b: 0 };
-    let rule = Rule::new(0, Carousel::Never, Target::AtOnce, false);
+    let plan = Plan::new(0, Carousel::Never, Target::AtOnce, false);
     Slot {
         holders: 0,
         listed: false,
-        file: FileDesc::new(0, 0, part, sizes, rule, Time::none()),
+        file: FileDesc::new(0, 0, part, sizes, plan, Time::none()),
     }
 }
 

@@ -10,7 +10,7 @@ use lib.Dec.{leb, ltb}
 use lib.ListN.{length, getD}
 use Rattle.sizes.specs.Words.{if_then_else_}
 use Rattle.text.proofs.Lists.{bool-cases, both}
-use Rattle.wire.specs.Record.{record-size, good, writable, done, write-said, write-answer, Writes}
+use Rattle.wire.specs.Record.{record-size, good, writable, done, writing-said, write-answer, RecordWrites}
 use Rattle.wire.specs.declared.record.Record.{Record}
 use Rattle.wire.specs.declared.record.Writing.{Writing}
 use Rattle.wire.specs.declared.record.Writing.the-variants.{Done, Refused}
@@ -65,13 +65,13 @@ abbrev pub is-done : Writing → Bool
 is-done Done = true
 is-done Refused = false
 
-told : (a : Writing) (b : Bool) → write-said a ≡ (if b then done else write-said Refused) → is-done a ≡ b
+told : (a : Writing) (b : Bool) → writing-said a ≡ (if b then done else writing-said Refused) → is-done a ≡ b
 told Done true h = refl
 told Done false h = let z : _≡_ {A = ℕ} 0 1 = cc in absurd (omega arith)
 told Refused true h = let z : _≡_ {A = ℕ} 0 1 = cc in absurd (omega arith)
 told Refused false h = refl
 
 -- a write is done exactly where there is room for the record
-pub room-told : {out after : List ℕ} {room : ℕ} {r : Record} {a : Writing} → Writes out r a after → length out ≡ room → is-done a ≡ room-for room r
+pub room-told : {out after : List ℕ} {room : ℕ} {r : Record} {a : Writing} → RecordWrites out r a after → length out ≡ room → is-done a ≡ room-for room r
 unfolding write-answer writable room-for
 room-told {out} {after} {room} {r} {a} w e = told a (writable out r) (w .answer) ∙ ap (λ n. leb record-size n && good r) e

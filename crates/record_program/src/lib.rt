@@ -6,7 +6,7 @@ ghost use mathlib.Core.Path.{_≡_};
 ghost use Prim.Native.Nat.{_≤_};
 ghost use lib.ListN.{length, replicate};
 ghost use Rattle.record_program.specs.Numbers.{room-for};
-ghost use Rattle.record_program.specs.Readings.{reading-said, word-reading};
+ghost use Rattle.record_program.specs.Readings.{word-said, word-reading};
 use crate::hex::Spelled;
 use text::Word;
 use wire::record::Reading;
@@ -58,7 +58,7 @@ pub fn read_words(line: &[u8], from: usize) -> ReadWords {
 
 // The same for bytes in hex. The buffer holds what the longest line can spell.
 fn read_word(w: &[u8]) -> ReadWords
-    ensures { λ r. ⌜ (length (now (w .entry)) ≤ 65536 → reading-said r ≡ word-reading (now (w .entry))) ⌝ }
+    ensures { λ r. ⌜ (length (now (w .entry)) ≤ 65536 → word-said r ≡ word-reading (now (w .entry))) ⌝ }
 {
     let mut space = [0u8; 32768];
     let buffer: &mut [u8] = &mut space;

@@ -39,8 +39,8 @@ use Rattle.saltdoodle.proofs.byvalue.Refusing as RG
 use Rattle.saltdoodle.proofs.byvalue.Refusing.Laws as RG′
 use Rattle.saltdoodle.proofs.byvalue.Sending as SG
 use Rattle.saltdoodle.proofs.byvalue.Sending.Laws as SG′
-use Rattle.sender.proofs.sender.Telling as TG
-use Rattle.sender.proofs.sender.Telling.Laws as TG′
+use Rattle.sender.proofs.sender.Touching as TG
+use Rattle.sender.proofs.sender.Touching.Laws as TG′
 use Rattle.lending.proofs.Whole.{Data, Pair, struct-data, uint-data, bool-data}
 
 module _ {M : Type 1} (𝓤 : URA M) (H : Heap 𝓤) (A : Atoms 𝓤) (W : Given 𝓤 H A) where

@@ -17,15 +17,15 @@ use Rattle.lifecycle.specs.declared.slots.Slot.{Slot}
 use Rattle.lifecycle.specs.declared.fdt.Fdt.{Fdt}
 use Rattle.sender.specs.EncoderCalls.{read-of}
 use Rattle.sender.specs.SessionCalls.{idle-of, forced-slot, service-by, served-of, ran-by, attended-of, again-by, ran-of}
-use Rattle.sender.specs.SenderCalls.{Valid, with-session, answer-of, running-of}
+use Rattle.sender.specs.SenderCalls.{ValidSender, with-session, answer-of, running-of}
 use Rattle.sender.specs.declared.blockencoder.BlockEncoder.{BlockEncoder}
 use Rattle.sender.specs.declared.blockencoder.Emitted.{Emitted}
 use Rattle.sender.specs.declared.blockencoder.Emitted.the-variants as EmittedV
 use Rattle.sender.specs.declared.sendersession.SenderSession.{SenderSession}
-use Rattle.sender.specs.declared.sendersession.Service.{Service}
-use Rattle.sender.specs.declared.sendersession.Served.{Served}
-use Rattle.sender.specs.declared.sendersession.Served.the-variants as ServedV
-use Rattle.sender.specs.declared.sendersession.Ran.{Ran}
+use Rattle.sender.specs.declared.sendersession.Serving.{Serving}
+use Rattle.sender.specs.declared.sendersession.Outcome.{Outcome}
+use Rattle.sender.specs.declared.sendersession.Outcome.the-variants as OutcomeV
+use Rattle.sender.specs.declared.sendersession.Turn.{Turn}
 use Rattle.sender.specs.declared.sender.Running.{Running}
 use Rattle.sender.specs.declared.sender.Sender.{Sender}
 use Rattle.sender.proofs.SenderKept.{runs, run-goes, ran-sender}
@@ -55,7 +55,7 @@ of-bool P false y n = n refl
 of-order : (P : Type 0) (i n : ℕ) → (i < n → P) → (n ≤ i → P) → P
 of-order P i n y m = of-bool P (ltb i n) (λ e. y (ltb-true i n e)) (λ e. m (ltb-false i n e))
 
-module _ (s : Sender) (ok : Valid s) (i : ℕ) where
+module _ (s : Sender) (ok : ValidSender s) (i : ℕ) where
   used : session-at s i .busy ≡ true → i < s .count
   used e = of-order (i < s .count) i (s .count) (λ h. h) (λ h. absurd (true≢false (sym e ∙ ap (λ (x : SenderSession). x .busy) (ok .spare i h))))
 
@@ -72,7 +72,7 @@ slot-by : (x : SenderSession) (y : BlockEncoder) (e : Emitted) → service-by x 
 slot-by x y EmittedV.Nothing = refl
 slot-by x y (EmittedV.One s) = refl
 
-slot-if : (b : Bool) (x : SenderSession) (r : Service) → r .session .slot ≡ x .slot → (if b then record { answer = ServedV.Idle; session = x } else r) .session .slot ≡ x .slot
+slot-if : (b : Bool) (x : SenderSession) (r : Serving) → r .session .slot ≡ x .slot → (if b then record { answer = OutcomeV.Idle; session = x } else r) .session .slot ≡ x .slot
 slot-if true x r e = refl
 slot-if false x r e = e
 
@@ -81,27 +81,27 @@ unfolding served-of
 served-slot forced blocked now x = slot-if (blocked || too-early now (pace-said (x .pace))) x (service-by x (read-of forced (x .encoder) .encoder) (read-of forced (x .encoder) .answer)) (slot-by x (read-of forced (x .encoder) .encoder) (read-of forced (x .encoder) .answer))
 
 -- a run that goes no second round
-abbrev again : ℕ → ℕ → Fdt → SenderSession → SenderSession → Served → Ran
+abbrev again : ℕ → ℕ → Fdt → SenderSession → SenderSession → Outcome → Turn
 again w now f x y a = again-by w now (ran-by now f x y a) (ran-by now f x y a .answer)
 
-once : (w now : ℕ) (f : Fdt) (x : SenderSession) (toi : ℕ) (y : SenderSession) (a : Served) → settled-by x toi y a .done ≡ true → again w now f x y a ≡ record { answer = a; fdt = f; session = y }
-once w now f x toi y ServedV.Over e = absurd (true≢false (sym e))
-once w now f x toi y ServedV.Idle e = refl
-once w now f x toi y (ServedV.Sent s) e = refl
+once : (w now : ℕ) (f : Fdt) (x : SenderSession) (toi : ℕ) (y : SenderSession) (a : Outcome) → settled-by x toi y a .done ≡ true → again w now f x y a ≡ record { answer = a; fdt = f; session = y }
+once w now f x toi y OutcomeV.Over e = absurd (true≢false (sym e))
+once w now f x toi y OutcomeV.Idle e = refl
+once w now f x toi y (OutcomeV.Sent s) e = refl
 
-told : (x : SenderSession) (toi : ℕ) (y : SenderSession) (a : Served) → settled-by x toi y a .done ≡ true → settled-by x toi y a ≡ settled-as true (answer-of false toi 0 a) y
-told x toi y ServedV.Over e = absurd (true≢false (sym e))
-told x toi y ServedV.Idle e = refl
-told x toi y (ServedV.Sent s) e = refl
+told : (x : SenderSession) (toi : ℕ) (y : SenderSession) (a : Outcome) → settled-by x toi y a .done ≡ true → settled-by x toi y a ≡ settled-as true (answer-of false toi 0 a) y
+told x toi y OutcomeV.Over e = absurd (true≢false (sym e))
+told x toi y OutcomeV.Idle e = refl
+told x toi y (OutcomeV.Sent s) e = refl
 
-module _ (s : Sender) (ok : Valid s) (i now : ℕ) where
+module _ (s : Sender) (ok : ValidSender s) (i now : ℕ) where
   abbrev x : SenderSession
   x = session-at s i
 
   abbrev t : Slot
   t = slot-at (s .fdt .slots) (x .slot)
 
-  abbrev v : Service
+  abbrev v : Serving
   v = served-of (forced-slot t) (waits-of (s .fdt .announcer)) now x
 
   rounds : x .busy ≡ true → ran-of (s .window) now (s .fdt) x ≡ again (s .window) now (s .fdt) x (v .session) (v .answer)
@@ -133,7 +133,7 @@ module _ (s : Sender) (ok : Valid s) (i now : ℕ) where
       (λ idle. absurd (true≢false (sym d ∙ ap (λ (q : Settled). q .done) (e ∙ idles (s .fdt .announcer .waiting) now t x idle))))
 
 -- three numbers say how a run is settled
-pub glances : (s : Sender) → Valid s → (i now : ℕ) (r : Numbers) → Quick (s .fdt .announcer .waiting) now (slot-at (s .fdt .slots) (session-at s i .slot)) (session-at s i) r
+pub glances : (s : Sender) → ValidSender s → (i now : ℕ) (r : Numbers) → Quick (s .fdt .announcer .waiting) now (slot-at (s .fdt .slots) (session-at s i .slot)) (session-at s i) r
     → RunsFileLent i now s (with-session i (stepped (session-at s i) (r .place) (r .esi) (r .next) (r .due)) s) (r .answer)
 glances s ok i now r q = settles s ok i now (record { done = true; answer = r .answer; session = stepped (session-at s i) (r .place) (r .esi) (r .next) (r .due) }) (sym (q .exact)) refl
 

@@ -5,7 +5,7 @@ use Rattle.sizes.specs.Words.{if_then_else_}
 use Rattle.lifecycle.specs.declared.parts.Part.{Part}
 use Rattle.lifecycle.specs.declared.announce.Draft.the-variants as DraftV
 use Rattle.lifecycle.specs.declared.fdt.Transfers.{Transfers}
-use Rattle.sender.specs.SenderCalls.{Reserves, Releases, Adds, Publishes, Totals, RunsFdt, RunsFile}
+use Rattle.sender.specs.SenderCalls.{Reserves, Releases, Adds, Publishes, CountsTransfers, RunsFdt, RunsFile}
 use Rattle.sender.specs.SetupCalls.{Opens}
 use Rattle.sender.specs.declared.sender.Sender.{Sender}
 use Rattle.sender.specs.declared.sender.Reserving.{Reserving}
@@ -55,5 +55,5 @@ OpensLent z s = Lent (Opens (setup-in z)) (λ (r : Opened). if r .ok then r .sen
 -- the sender stays
 pub record TotalsTold (t : ℕ) (s : Sender) (answer : Counted) : Type 0 where
   pub result : Transfers
-  pub promised : Totals t s result
+  pub promised : CountsTransfers t s result
   pub said : answer ≡ transfers-told result

@@ -1,5 +1,5 @@
 // The calls by value, with what the host names and is told.
-ghost use Rattle.sender.specs.SenderCalls.{Valid};
+ghost use Rattle.sender.specs.SenderCalls.{ValidSender};
 ghost use Rattle.saltdoodle.specs.Lent.{ReservesLent, ReleasesLent, AddsLent, PublishesLent, RunsFdtLent, RunsFileLent, OpensLent, TotalsTold};
 use host_structs::answers::Counted;
 use host_structs::answers::Numbered;
@@ -37,7 +37,7 @@ pub struct Sending {
 }
 
 pub(crate) fn reserved(s: Sender) -> Numbering
-    requires { ⌜ Valid s ⌝ }
+    requires { ⌜ ValidSender s ⌝ }
     ensures { λ r. ⌜ ReservesLent s (r .sender) (r .answer) ⌝ }
 {
     let r = s.reserve();
@@ -50,7 +50,7 @@ pub(crate) fn reserved(s: Sender) -> Numbering
 }
 
 pub(crate) fn released(s: Sender, toi: u64) -> Refusing
-    requires { ⌜ Valid s ⌝ }
+    requires { ⌜ ValidSender s ⌝ }
     ensures { λ r. ⌜ ReleasesLent toi s (r .sender) (r .answer) ⌝ }
 {
     let r = s.release(toi);
@@ -63,7 +63,7 @@ pub(crate) fn released(s: Sender, toi: u64) -> Refusing
 }
 
 pub(crate) fn added(s: Sender, o: PlainObject) -> Numbering
-    requires { ⌜ Valid s ⌝ }
+    requires { ⌜ ValidSender s ⌝ }
     ensures { λ r. ⌜ AddsLent o s (r .sender) (r .answer) ⌝ }
 {
     let r = s.add(object_in(o), named_in(o));
@@ -76,7 +76,7 @@ pub(crate) fn added(s: Sender, o: PlainObject) -> Numbering
 }
 
 pub(crate) fn published(s: Sender, now: u64, part: Part) -> Refusing
-    requires { ⌜ Valid s ⌝ }
+    requires { ⌜ ValidSender s ⌝ }
     ensures { λ r. ⌜ PublishesLent now part s (r .sender) (r .answer) ⌝ }
 {
     let r = s.publish(now, part);
@@ -89,7 +89,7 @@ pub(crate) fn published(s: Sender, now: u64, part: Part) -> Refusing
 }
 
 pub(crate) fn ran_fdt(s: Sender, now: u64, draft: Part) -> Sending
-    requires { ⌜ Valid s ⌝ }
+    requires { ⌜ ValidSender s ⌝ }
     ensures { λ r. ⌜ RunsFdtLent now draft s (r .sender) (r .answer) ⌝ }
 {
     let r = s.run_fdt(now, Draft::Given(draft));
@@ -102,7 +102,7 @@ pub(crate) fn ran_fdt(s: Sender, now: u64, draft: Part) -> Sending
 }
 
 pub(crate) fn ran(s: Sender, i: u64, now: u64) -> Sending
-    requires { ⌜ Valid s ⌝ }
+    requires { ⌜ ValidSender s ⌝ }
     ensures { λ r. ⌜ RunsFileLent i now s (r .sender) (r .answer) ⌝ }
 {
     let r = s.run(i, now);
@@ -128,7 +128,7 @@ pub(crate) fn opened(s: Sender, z: PlainSetup) -> Refusing
 }
 
 pub(crate) fn counted(s: Sender, toi: u64) -> Counted
-    requires { ⌜ Valid s ⌝ }
+    requires { ⌜ ValidSender s ⌝ }
     ensures { λ r. ⌜ TotalsTold toi s r ⌝ }
 {
     transfers_told(s.transfers(toi))

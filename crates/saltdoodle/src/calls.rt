@@ -1,6 +1,6 @@
 // Every call from outside, on a sender that the host lends: the by-value call, on what stands behind the reference.
 // A time is named `at`: in a clause, `now` is what stands behind a reference.
-ghost use Rattle.sender.specs.SenderCalls.{Valid, Removes, Prompts, Lists, Completes};
+ghost use Rattle.sender.specs.SenderCalls.{ValidSender, Removes, Prompts, Lists, Completes};
 ghost use Rattle.saltdoodle.specs.Lent.{ReservesLent, ReleasesLent, AddsLent, PublishesLent, RunsFdtLent, RunsFileLent, OpensLent, TotalsTold};
 use crate::byvalue::added;
 use crate::byvalue::counted;
@@ -32,7 +32,7 @@ pub extern "C" fn sd_set_up(s: &mut Sender, z: PlainSetup) -> u32
 
 #[no_mangle]
 pub extern "C" fn sd_reserve(s: &mut Sender) -> Numbered
-    requires { ⌜ Valid (now s) ⌝ }
+    requires { ⌜ ValidSender (now s) ⌝ }
     ensures { λ r. ⌜ ReservesLent (now (s .entry)) (now (s .exit)) r ⌝ }
 {
     let r = reserved(*s);
@@ -42,7 +42,7 @@ pub extern "C" fn sd_reserve(s: &mut Sender) -> Numbered
 
 #[no_mangle]
 pub extern "C" fn sd_release(s: &mut Sender, toi: u64) -> u32
-    requires { ⌜ Valid (now s) ⌝ }
+    requires { ⌜ ValidSender (now s) ⌝ }
     ensures { λ r. ⌜ ReleasesLent toi (now (s .entry)) (now (s .exit)) r ⌝ }
 {
     let r = released(*s, toi);
@@ -52,7 +52,7 @@ pub extern "C" fn sd_release(s: &mut Sender, toi: u64) -> u32
 
 #[no_mangle]
 pub extern "C" fn sd_add(s: &mut Sender, o: PlainObject) -> Numbered
-    requires { ⌜ Valid (now s) ⌝ }
+    requires { ⌜ ValidSender (now s) ⌝ }
     ensures { λ r. ⌜ AddsLent o (now (s .entry)) (now (s .exit)) r ⌝ }
 {
     let r = added(*s, o);
@@ -62,7 +62,7 @@ pub extern "C" fn sd_add(s: &mut Sender, o: PlainObject) -> Numbered
 
 #[no_mangle]
 pub extern "C" fn sd_remove(s: &mut Sender, toi: u64) -> bool
-    requires { ⌜ Valid (now s) ⌝ }
+    requires { ⌜ ValidSender (now s) ⌝ }
     ensures { λ r. ⌜ Removes toi (now (s .entry)) (record { yes = r; sender = now (s .exit) }) ⌝ }
 {
     let r = (*s).remove(toi);
@@ -72,7 +72,7 @@ pub extern "C" fn sd_remove(s: &mut Sender, toi: u64) -> bool
 
 #[no_mangle]
 pub extern "C" fn sd_trigger(s: &mut Sender, toi: u64, start: Time) -> bool
-    requires { ⌜ Valid (now s) ⌝ }
+    requires { ⌜ ValidSender (now s) ⌝ }
     ensures { λ r. ⌜ Prompts toi start (now (s .entry)) (record { yes = r; sender = now (s .exit) }) ⌝ }
 {
     let r = (*s).trigger(toi, start);
@@ -82,7 +82,7 @@ pub extern "C" fn sd_trigger(s: &mut Sender, toi: u64, start: Time) -> bool
 
 #[no_mangle]
 pub extern "C" fn sd_complete(s: &mut Sender)
-    requires { ⌜ Valid (now s) ⌝ }
+    requires { ⌜ ValidSender (now s) ⌝ }
     ensures { λ _. ⌜ Completes (now (s .entry)) (now (s .exit)) ⌝ }
 {
     let r = (*s).complete();
@@ -91,7 +91,7 @@ pub extern "C" fn sd_complete(s: &mut Sender)
 
 #[no_mangle]
 pub extern "C" fn sd_publish(s: &mut Sender, at: u64, part: Part) -> u32
-    requires { ⌜ Valid (now s) ⌝ }
+    requires { ⌜ ValidSender (now s) ⌝ }
     ensures { λ r. ⌜ PublishesLent at part (now (s .entry)) (now (s .exit)) r ⌝ }
 {
     let r = published(*s, at, part);
@@ -102,7 +102,7 @@ pub extern "C" fn sd_publish(s: &mut Sender, at: u64, part: Part) -> u32
 // The FDT session; a draft of length 0 is none.
 #[no_mangle]
 pub extern "C" fn sd_run_fdt(s: &mut Sender, at: u64, draft: Part) -> Sent
-    requires { ⌜ Valid (now s) ⌝ }
+    requires { ⌜ ValidSender (now s) ⌝ }
     ensures { λ r. ⌜ RunsFdtLent at draft (now (s .entry)) (now (s .exit)) r ⌝ }
 {
     let r = ran_fdt(*s, at, draft);
@@ -113,7 +113,7 @@ pub extern "C" fn sd_run_fdt(s: &mut Sender, at: u64, draft: Part) -> Sent
 // File session i. In the middle of a transfer three numbers are stored; where nothing but the session changes, only it is.
 #[no_mangle]
 pub extern "C" fn sd_run(s: &mut Sender, i: u64, at: u64) -> Sent
-    requires { ⌜ Valid (now s) ⌝ }
+    requires { ⌜ ValidSender (now s) ⌝ }
     ensures { λ r. ⌜ RunsFileLent i at (now (s .entry)) (now (s .exit)) r ⌝ }
 {
     if i < 4 {
@@ -144,7 +144,7 @@ pub extern "C" fn sd_run(s: &mut Sender, i: u64, at: u64) -> Sent
 // Is the object listed?
 #[no_mangle]
 pub extern "C" fn sd_listed(s: &Sender, toi: u64) -> bool
-    requires { ⌜ Valid (now s) ⌝ }
+    requires { ⌜ ValidSender (now s) ⌝ }
     ensures { λ r. ⌜ Lists toi (now (s .entry)) r ⌝ }
 {
     (*s).listed(toi)
@@ -153,7 +153,7 @@ pub extern "C" fn sd_listed(s: &Sender, toi: u64) -> bool
 // Its total transfers, where it is listed.
 #[no_mangle]
 pub extern "C" fn sd_transfers(s: &Sender, toi: u64) -> Counted
-    requires { ⌜ Valid (now s) ⌝ }
+    requires { ⌜ ValidSender (now s) ⌝ }
     ensures { λ r. ⌜ TotalsTold toi (now (s .entry)) r ⌝ }
 {
     counted(*s, toi)

@@ -38,7 +38,7 @@ use Rattle.lifecycle.proofs.FileDescLaws.{plan-named}
 use Rattle.definition.specs.Desk as Def
 use Rattle.sender.specs.SessionCalls.{Holds, object-of}
 use Rattle.sender.specs.FdtSessionCalls.{FdtHolds, fdt-hand-of}
-use Rattle.sender.specs.SenderCalls.{working, desk-of, Agrees, Valid, Kept, add-answer, named-said, object-said, with-list, has-priority, request-of, adding-of}
+use Rattle.sender.specs.SenderCalls.{working, desk-of, Agrees, ValidSender, Kept, add-answer, named-said, object-said, with-list, has-priority, request-of, adding-of}
 use Rattle.sender.specs.declared.sender.Sender.{Sender}
 use Rattle.sender.specs.declared.sender.Object.{Object}
 use Rattle.sender.specs.declared.sender.Adding.{Adding}
@@ -77,7 +77,7 @@ unloosed-last t [] h = rw (eq-eqb t t refl)
 unloosed-last t (a ∷ l) h = (elim (eqb a t) as (λ b. one-if b + times t l ≡ 0 → (if not b then a ∷ keep (λ u. not (eqb u t)) (l ++ (t ∷ [])) else keep (λ u. not (eqb u t)) (l ++ (t ∷ []))) ≡ a ∷ l)
     [ true ↦ λ z. absurd (omega arith) | false ↦ λ z. ap (λ r. a ∷ r) (unloosed-last t l (omega arith)) ]) h
 
-module _ (u : Setup) (o : Object) (s : Sender) (agrees : Agrees u s) (v : Valid s) where
+module _ (u : Setup) (o : Object) (s : Sender) (agrees : Agrees u s) (v : ValidSender s) where
   abbrev own : Sizes
   own = own-of (o .own) (s .fdt .settings .sizes)
 
@@ -130,7 +130,7 @@ module _ (u : Setup) (o : Object) (s : Sender) (agrees : Agrees u s) (v : Valid 
 
 -- ---- the call
 
-module _ (o : Object) (named : Named) (s : Sender) (v : Valid s) where
+module _ (o : Object) (named : Named) (s : Sender) (v : ValidSender s) where
   abbrev call : Def.Call
   call = Def.Call.add (named-said named) (object-said o)
 
@@ -169,6 +169,6 @@ module _ (o : Object) (named : Named) (s : Sender) (v : Valid s) where
       })
       (λ e h g. record { means = λ u a. step-is u a e; agrees = λ u a. a; valid = v })
 
-pub add-kept : {s : Sender} (o : Object) (named : Named) → Valid s → Holds (adding-of o named s .sender .fdt) → FdtHolds (adding-of o named s .sender .fdt)
+pub add-kept : {s : Sender} (o : Object) (named : Named) → ValidSender s → Holds (adding-of o named s .sender .fdt) → FdtHolds (adding-of o named s .sender .fdt)
     → Kept s (Def.Call.add (named-said named) (object-said o)) (add-answer (adding-of o named s .answer)) (adding-of o named s .sender)
 add-kept {s} o named v h g = add-kept-of o named s v h g

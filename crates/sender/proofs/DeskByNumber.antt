@@ -9,7 +9,7 @@ use Rattle.sizes.proofs.Lists.{each-all, map-comm}
 use Rattle.lifecycle.specs.Lifecycle.{triggered}
 use Rattle.lifecycle.specs.FileDesc.{time-of, life-of, pace-said, with-life, reset-life}
 use Rattle.lifecycle.specs.Slots.{slot-at}
-use Rattle.lifecycle.specs.FdtCalls.{Valid as ListValid}
+use Rattle.lifecycle.specs.FdtCalls.{ValidFdt}
 use Rattle.lifecycle.specs.FdtCalls.{files, removed-of, triggered-of}
 use Rattle.lifecycle.proofs.FdtMeans.{listed-but, reset-file}
 use Rattle.lifecycle.specs.declared.filedesc.Time.{Time}
@@ -27,14 +27,14 @@ use Rattle.sender.specs.EncoderCalls.{encoder-of}
 use Rattle.sender.specs.SessionCalls.{object-of, hand-of, Holds}
 use Rattle.sender.specs.FdtSessionCalls.{FdtHolds}
 use Rattle.sender.proofs.SessionFacts.{SameSide, same-by}
-use Rattle.sender.specs.SenderCalls.{desk-of, Valid, Kept, with-list, removing-of, prompting-of}
+use Rattle.sender.specs.SenderCalls.{desk-of, ValidSender, Kept, with-list, removing-of, prompting-of}
 use Rattle.sender.specs.declared.sendersession.SenderSession.{SenderSession}
 use Rattle.sender.specs.declared.sender.Sender.{Sender}
 use Rattle.sender.proofs.DeskChanges.{sessions-moved, sessions-same, Stays, kept-stays, valid-list, agrees-list, desk-moved, listed-answer}
 
 -- ---- remove
 
-pub removed-side : (t : ℕ) (f : Fdt) → ListValid f → SameSide f (removed-of t f .fdt)
+pub removed-side : (t : ℕ) (f : Fdt) → ValidFdt f → SameSide f (removed-of t f .fdt)
 removed-side t f v = same-by (removed-keeps f t) (removed-numbers f t v)
 
 keep-map : {A B : Type 0} (ok : B → Bool) (f : A → B) (l : List A) → keep ok (map f l) ≡ map f (keep (λ a. ok (f a)) l)
@@ -60,7 +60,7 @@ unfolding Def.touched-hand Def.is
 unlisted-hand t y x = elim (eqb (y .file .toi) t) as (λ b. flagged y x (y .listed && not b) ≡ (if b then flagged y x false else hand-of y x))
     [ true ↦ ap (flagged y x) (and-false (y .listed)) | false ↦ ap (flagged y x) (and-true (y .listed)) ]
 
-pub removed-desk : (s : Sender) → Valid s → (t : ℕ) → desk-of (with-list s (removed-of t (s .fdt) .fdt)) ≡ Def.touched t Def.Touch.remove (desk-of s)
+pub removed-desk : (s : Sender) → ValidSender s → (t : ℕ) → desk-of (with-list s (removed-of t (s .fdt) .fdt)) ≡ Def.touched t Def.Touch.remove (desk-of s)
 unfolding Def.touched Def.is desk-of
 removed-desk s v t =
     let f = s .fdt in
@@ -75,7 +75,7 @@ removed-desk s v t =
       pace = pace-said (x .pace);
     }) ∙ unlisted-hand t (slot-at (f .slots) j) x))
 
-pub removed-stays : (s : Sender) → Valid s → (t : ℕ) → Stays (s .fdt) (removed-of t (s .fdt) .fdt)
+pub removed-stays : (s : Sender) → ValidSender s → (t : ℕ) → Stays (s .fdt) (removed-of t (s .fdt) .fdt)
 removed-stays s v t =
     let w = removed-view t (s .fdt) (v .holds .valid) in
     let a = removed-side t (s .fdt) (v .holds .valid) in
@@ -87,7 +87,7 @@ removed-stays s v t =
       current = ap (λ (n : Announcer). n .current .life .transferring) (a .announcer);
     }
 
-pub remove-kept : (s : Sender) (t : ℕ) → Valid s → Holds (removing-of t s .sender .fdt) → FdtHolds (removing-of t s .sender .fdt)
+pub remove-kept : (s : Sender) (t : ℕ) → ValidSender s → Holds (removing-of t s .sender .fdt) → FdtHolds (removing-of t s .sender .fdt)
     → Kept s (Def.Call.touch t Def.Touch.remove) (Def.Answer.truth (removing-of t s .yes)) (removing-of t s .sender)
 unfolding removing-of Def.step
 remove-kept s t v a b =
@@ -111,7 +111,7 @@ unfolding prompted Def.is
 prompted-object t start o = elim (eqb (o .toi) t) as (λ b. object-of (if b then with-life o (reset-life start (o .life)) else o) ≡ (if b then living (triggered (time-of start) (life-of (o .life))) (object-of o) else object-of o))
     [ true ↦ ap (λ x. living x (object-of o)) (life-reset start (o .life)) | false ↦ refl ]
 
-pub prompted-desk : (s : Sender) → Valid s → (t : ℕ) (start : Time)
+pub prompted-desk : (s : Sender) → ValidSender s → (t : ℕ) (start : Time)
     → desk-of (with-list s (triggered-of t start (s .fdt) .fdt)) ≡ Def.touched t (Def.Touch.trigger (time-of start)) (desk-of s)
 unfolding Def.touched desk-of
 prompted-desk s v t start =
@@ -124,12 +124,12 @@ prompted-desk s v t start =
     (each-all (λ o. object-of (reset-file t start o) ≡ prompted t (time-of start) (object-of o)) (prompted-object t start) (files f)) ∙ sym (prompted-waiting t (time-of start) (map object-of (files f))))
     (sessions-same s v (r .slots) (w .same) ∙ sym (prompted-hands t (time-of start) (desk-of s .sessions)))
 
-pub triggered-stays : (s : Sender) → Valid s → (t : ℕ) (start : Time) → Stays (s .fdt) (triggered-of t start (s .fdt) .fdt)
+pub triggered-stays : (s : Sender) → ValidSender s → (t : ℕ) (start : Time) → Stays (s .fdt) (triggered-of t start (s .fdt) .fdt)
 triggered-stays s v t start =
     let w = triggered-view t start (s .fdt) (v .holds .valid) in
     kept-stays (s .fdt) (triggered-of t start (s .fdt) .fdt) (triggered-keeps (s .fdt) t start) (w .sent-same) (w .same)
 
-pub trigger-kept : (s : Sender) (t : ℕ) (start : Time) → Valid s → Holds (prompting-of t start s .sender .fdt) → FdtHolds (prompting-of t start s .sender .fdt)
+pub trigger-kept : (s : Sender) (t : ℕ) (start : Time) → ValidSender s → Holds (prompting-of t start s .sender .fdt) → FdtHolds (prompting-of t start s .sender .fdt)
     → Kept s (Def.Call.touch t (Def.Touch.trigger (time-of start))) (Def.Answer.truth (prompting-of t start s .yes)) (prompting-of t start s .sender)
 unfolding prompting-of Def.step
 trigger-kept s t start v a b =

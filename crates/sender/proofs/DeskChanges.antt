@@ -28,7 +28,7 @@ use Rattle.sender.specs.SessionCalls.{object-of, hand-of, session-of, id
 use Rattle.sender.specs.FdtSessionCalls.{FdtHolds}
 use Rattle.sender.specs.SessionMeans.{Stands}
 use Rattle.sender.proofs.SessionFacts.{SameSide}
-use Rattle.sender.specs.SenderCalls.{working, desk-of, Agrees, slot-in, Valid, with-list}
+use Rattle.sender.specs.SenderCalls.{working, desk-of, Agrees, slot-in, ValidSender, with-list}
 use Rattle.sender.specs.declared.sendersession.SenderSession.{SenderSession}
 use Rattle.sender.specs.declared.sender.Sender.{Sender}
 
@@ -40,13 +40,13 @@ map-through F G [] = refl
 map-through F G (a ∷ l) = ap (λ r. F (G a) ∷ r) (map-through F G l)
 
 -- each session in use has an object in hand, or nothing
-pub working-stands : (s : Sender) → Valid s → (i : ℕ) (x : SenderSession) → at (working s) i ≡ some x → Stands (s .fdt) (s .window) x
+pub working-stands : (s : Sender) → ValidSender s → (i : ℕ) (x : SenderSession) → at (working s) i ≡ some x → Stands (s .fdt) (s .window) x
 working-stands s v i x e =
     let h = at-take (s .sessions) (s .count) i x e in
     subst (Stands (s .fdt) (s .window)) (sym (getD-take (s .count) (s .sessions) i (idle-of 0) h) ∙ at-get (idle-of 0) (working s) i x e .0) (v .sessions i h)
 
 -- the slots are t from now on: where each slot in transfer means g of what it meant, each hand is g of what it was
-pub sessions-moved : (s : Sender) → Valid s → (t : List Slot) (g : Hand → Hand)
+pub sessions-moved : (s : Sender) → ValidSender s → (t : List Slot) (g : Hand → Hand)
     → ((j : ℕ) (x : SenderSession) → sends (slot-at (s .fdt .slots) j) ≡ true → hand-of (slot-at t j) x ≡ g (hand-of (slot-at (s .fdt .slots) j) x))
     → map (session-of t) (working s) ≡ map (Def.in-hand g) (map (session-of (s .fdt .slots)) (working s))
 unfolding Def.in-hand
@@ -73,7 +73,7 @@ in-hand-same (x ∷ l) = λ i. record { priority = x .priority; hand = whole (x 
     whole (some y) = refl
 
 -- where each slot in transfer is as it was, so is what sessions have in hand
-pub sessions-same : (s : Sender) → Valid s → (t : List Slot) → ((j : ℕ) → sends (slot-at (s .fdt .slots) j) ≡ true → slot-at t j ≡ slot-at (s .fdt .slots) j)
+pub sessions-same : (s : Sender) → ValidSender s → (t : List Slot) → ((j : ℕ) → sends (slot-at (s .fdt .slots) j) ≡ true → slot-at t j ≡ slot-at (s .fdt .slots) j)
     → map (session-of t) (working s) ≡ map (session-of (s .fdt .slots)) (working s)
 sessions-same s v t h =
     sessions-moved s v t (λ y. y) (λ j x e. ap (λ (y : Slot). hand-of y x) (h j e)) ∙ in-hand-same (map (session-of (s .fdt .slots)) (working s))
@@ -117,7 +117,7 @@ stands-list f r w x k h = record {
   idle = h .idle;
 }
 
-pub valid-list : (s : Sender) (f : Fdt) → Valid s → Stays (s .fdt) f → Holds f → FdtHolds f → Valid (with-list s f)
+pub valid-list : (s : Sender) (f : Fdt) → ValidSender s → Stays (s .fdt) f → Holds f → FdtHolds f → ValidSender (with-list s f)
 valid-list s f v k a b = record {
   holds = a;
   fdt-holds = b;
@@ -200,7 +200,7 @@ given-over f none = refl
 given-over f (some a) = refl
 
 -- is one listed with the number
-pub listed-answer : (s : Sender) → Valid s → (t : ℕ) → given (Def.listed-as (desk-of s) t) ≡ given (listed-place t (s .fdt))
+pub listed-answer : (s : Sender) → ValidSender s → (t : ℕ) → given (Def.listed-as (desk-of s) t) ≡ given (listed-place t (s .fdt))
 listed-answer s v t =
     let l = collect slot-in (working s) in
     ap given (listed-desk s t)

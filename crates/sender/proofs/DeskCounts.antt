@@ -29,7 +29,7 @@ use Rattle.lifecycle.proofs.FdtSearches.{free-view}
 use Rattle.definition.specs.Session.{Object, Hand}
 use Rattle.definition.specs.Desk.{in-hands, objects, numbers, full}
 use Rattle.sender.specs.SessionCalls.{object-of, hand-of, session-of}
-use Rattle.sender.specs.SenderCalls.{working, desk-of, Agrees, slot-in, Valid}
+use Rattle.sender.specs.SenderCalls.{working, desk-of, Agrees, slot-in, ValidSender}
 use Rattle.sender.specs.declared.sendersession.SenderSession.{SenderSession}
 use Rattle.sender.specs.declared.sender.Sender.{Sender}
 
@@ -93,7 +93,7 @@ objects-view s =
     let a : map object-of (map (file-at (s .fdt .slots)) (waiting (s .fdt))) ≡ map g (waiting (s .fdt)) = sym (map-two g (file-at (s .fdt .slots)) object-of (waiting (s .fdt)) (λ k u. refl)) in
     (λ i. a i ++ hands-view (s .fdt .slots) (working s) i) ∙ sym (map-append g (waiting (s .fdt)) (collect slot-in (working s)))
 
-module _ (s : Sender) (v : Valid s) where
+module _ (s : Sender) (v : ValidSender s) where
   -- each used slot has one owner
   pub owners-used : Counts no-slot used (s .fdt .slots) (owners s)
   owners-used k =

@@ -12,8 +12,8 @@ use Rattle.lifecycle.specs.Lifecycle as Life
 use Rattle.lifecycle.specs.Setup.{Setup, bad-blocks}
 use Rattle.lifecycle.specs.Fdt.{bad-fdt-part}
 use Rattle.lifecycle.specs.Announce.{state-of, draft-given, bad-fdt-of}
-use Rattle.lifecycle.specs.FdtCalls.{with-slots, announced, with-announcer, real-draft, draft-test-of, next-fdt-of, fdt-done-of}
-use Rattle.lifecycle.specs.FdtCalls.{Valid as ListValid}
+use Rattle.lifecycle.specs.FdtCalls.{with-slots, with-published, with-announcer, real-draft, draft-test-of, next-fdt-of, fdt-done-of}
+use Rattle.lifecycle.specs.FdtCalls.{ValidFdt}
 use Rattle.lifecycle.specs.declared.parts.Part.{Part}
 use Rattle.lifecycle.specs.declared.announce.Announcer.{Announcer}
 use Rattle.lifecycle.specs.declared.announce.Draft.{Draft}
@@ -25,20 +25,20 @@ use Rattle.lifecycle.proofs.AnnounceSends.{current-sends, next-fdt-sends, fdt-d
 use Rattle.lifecycle.proofs.FdtSent.{same-counts}
 use Rattle.lifecycle.proofs.AnnounceLaws.{bad-said}
 use Rattle.lifecycle.proofs.PublishLaws.{valid-next-fdt, valid-fdt-done}
-use Rattle.definition.specs.FdtSession.{FdtTurn, fdt-run}
+use Rattle.definition.specs.FdtSession.{FdtTurn as DefTurn, fdt-run}
 use Rattle.definition.specs.Desk as Def
 use Rattle.sender.specs.EncoderCalls.{read-of}
 use Rattle.sender.specs.SessionCalls.{idle-of, Holds}
 use Rattle.sender.specs.FdtSessionCalls.{FdtHolds, FdtTries, left-of, fdt-begun-of, fdt-sent-by, fdt-sent-of, fdt-attempted-of, fdt-again-by, fdt-ran-of}
 use Rattle.sender.specs.SessionMeans.{Stands, fdt-of}
-use Rattle.sender.specs.SenderCalls.{working, slot-in, desk-of, Agrees, Valid, Kept, fdt-answer, answer-of, fdt-running-by, fdt-running-of}
+use Rattle.sender.specs.SenderCalls.{working, slot-in, desk-of, Agrees, ValidSender, Kept, fdt-answer, answer-of, fdt-running-by, fdt-running-of}
 use Rattle.sender.specs.declared.blockencoder.Emitted.{Emitted}
 use Rattle.sender.specs.declared.blockencoder.Emitted.the-variants as EmittedV
 use Rattle.sender.specs.declared.sendersession.SenderSession.{SenderSession}
-use Rattle.sender.specs.declared.sendersession.Served.{Served}
-use Rattle.sender.specs.declared.sendersession.Served.the-variants.{Idle, Sent, Over}
+use Rattle.sender.specs.declared.sendersession.Outcome.{Outcome}
+use Rattle.sender.specs.declared.sendersession.Outcome.the-variants.{Idle, Sent, Over}
 use Rattle.sender.specs.declared.fdtsession.FdtSession.{FdtSession}
-use Rattle.sender.specs.declared.fdtsession.FdtRan.{FdtRan}
+use Rattle.sender.specs.declared.fdtsession.FdtTurn.{FdtTurn}
 use Rattle.sender.specs.declared.sender.Sender.{Sender}
 use Rattle.sender.specs.declared.sender.RunAnswer.the-variants as RunV
 use Rattle.sender.proofs.SessionLaws.{holds-next-fdt, holds-fdt-done}
@@ -55,7 +55,7 @@ use Rattle.sender.proofs.DeskPublish.{announced-desk, announced-stays}
 module _ (w now : ℕ) (draft : Draft) (P : Fdt → Bool → Type 0)
     (next : (d : Draft) (f : Fdt) → P f false → P (next-fdt-of now d f .fdt) (next-fdt-of now d f .starts))
     (done : (f : Fdt) → P f true → P (fdt-done-of now f) false) where
-  abbrev After : FdtRan → Type 0
+  abbrev After : FdtTurn → Type 0
   After r = P (r .fdt) (r .session .busy)
 
   sent-on : (taken : Bool) (f : Fdt) (x : FdtSession) → P f (x .busy) → After (fdt-sent-of now taken f x)
@@ -80,7 +80,7 @@ module _ (w now : ℕ) (draft : Draft) (P : Fdt → Bool → Type 0)
   unfolding fdt-ran-of
   ran-on f x p = let a = fdt-attempted-of w now draft false f x in again a (attempted-on false f x p) (a .answer)
     where
-      again : (a : FdtRan) → After a → (s : Served) → After (fdt-again-by w now draft a s)
+      again : (a : FdtTurn) → After a → (s : Outcome) → After (fdt-again-by w now draft a s)
       again a q Over = attempted-on (a .taken) (a .fdt) (a .session) q
       again a q Idle = q
       again a q (Sent s) = q
@@ -93,10 +93,10 @@ ran-holds w now draft = ran-on w now draft (λ f b. Holds f) (λ d f h. holds-ne
 
 -- so it is before and after each step of a run
 record Matched (f : Fdt) (busy : Bool) : Type 0 where
-  valid : ListValid f
+  valid : ValidFdt f
   matched : current-sends (f .announcer) ≡ busy
 
-pub ran-matched : (w now : ℕ) (draft : Draft) (f : Fdt) (x : FdtSession) → ListValid f → f .announcer .current .life .transferring ≡ x .busy
+pub ran-matched : (w now : ℕ) (draft : Draft) (f : Fdt) (x : FdtSession) → ValidFdt f → f .announcer .current .life .transferring ≡ x .busy
     → fdt-ran-of w now draft f x .fdt .announcer .current .life .transferring ≡ fdt-ran-of w now draft f x .session .busy
 ran-matched w now draft f x v e = ran-on w now draft Matched
     (λ d f m. record { valid = valid-next-fdt now d f (m .valid); matched = next-fdt-sends now f (m .valid) d (m .matched) })
@@ -107,13 +107,13 @@ ran-matched w now draft f x v e = ran-on w now draft Matched
 
 -- the list, after a draft was taken or not
 abbrev sided : Fdt → Bool → Announcer → Fdt
-sided f taken a = if taken then announced f a else with-announcer f a
+sided f taken a = if taken then with-published f a else with-announcer f a
 
 -- the sender with another list, and another FDT session
 abbrev onward : Sender → Fdt → FdtSession → Sender
 onward s f y = record { fdt = f; window = s .window; count = s .count; sessions = s .sessions; «fdt_session» = y }
 
-module _ (s : Sender) (v : Valid s) (f : Fdt) (y : FdtSession) (taken : Bool) (slots : f .slots ≡ marked-slots taken (s .fdt .slots)) (same : SameObjects (s .fdt) f) where
+module _ (s : Sender) (v : ValidSender s) (f : Fdt) (y : FdtSession) (taken : Bool) (slots : f .slots ≡ marked-slots taken (s .fdt .slots)) (same : SameObjects (s .fdt) f) where
   is-sided : (a : Announcer) → with-announcer f a ≡ sided (s .fdt) taken a
   is-sided a = (λ i. record {
     settings = same .settings i;
@@ -152,7 +152,7 @@ module _ (s : Sender) (v : Valid s) (f : Fdt) (y : FdtSession) (taken : Bool) (s
         idle = k .idle;
       }
 
-  onward-valid : Holds f → FdtHolds f → FdtStands f (s .window) y → f .announcer .current .life .transferring ≡ y .busy → Valid (onward s f y)
+  onward-valid : Holds f → FdtHolds f → FdtStands f (s .window) y → f .announcer .current .life .transferring ≡ y .busy → ValidSender (onward s f y)
   onward-valid h g st m = record {
     holds = h;
     fdt-holds = g;
@@ -218,23 +218,23 @@ set-up-of w z = record {
 }
 
 -- the packet is said
-answer-view : (taken : Bool) (id : ℕ) (a : Served) → Def.Answer.fdt-output taken (fdt-packet-said id a) ≡ fdt-answer taken (answer-of true 0 id a)
+answer-view : (taken : Bool) (id : ℕ) (a : Outcome) → Def.Answer.fdt-output taken (fdt-packet-said id a) ≡ fdt-answer taken (answer-of true 0 id a)
 answer-view taken id Idle = refl
 answer-view taken id (Sent y) = refl
 answer-view taken id Over = refl
 
 -- what the FDT session has in hand between two calls
-valid-stands : (s : Sender) → Valid s → FdtStands (s .fdt) (s .window) (s .«fdt_session»)
+valid-stands : (s : Sender) → ValidSender s → FdtStands (s .fdt) (s .window) (s .«fdt_session»)
 valid-stands s v = record { busy = v .fdt-busy; idle = v .fdt-idle }
 
 -- it may be run with a draft that passes the test
-pub tries-ready : (s : Sender) (draft : Draft) → Valid s → draft-test-of (real-draft draft) (s .fdt) ≡ none → FdtTries (s .fdt) (s .window) (real-draft draft) (s .«fdt_session»)
+pub tries-ready : (s : Sender) (draft : Draft) → ValidSender s → draft-test-of (real-draft draft) (s .fdt) ≡ none → FdtTries (s .fdt) (s .window) (real-draft draft) (s .«fdt_session»)
 tries-ready s draft v e =
     stands-tries (s .fdt) (s .window) (real-draft draft) (s .«fdt_session») (v .fdt-holds) (v .narrow) (draft-looked (real-draft draft) (s .fdt) (v .fdt-store) e) (valid-stands s v)
 
-module _ (s : Sender) (now : ℕ) (draft : Draft) (v : Valid s) where
+module _ (s : Sender) (now : ℕ) (draft : Draft) (v : ValidSender s) where
   -- what comes of a run
-  abbrev runs : FdtRan
+  abbrev runs : FdtTurn
   runs = fdt-ran-of (s .window) now (real-draft draft) (s .fdt) (s .«fdt_session»)
 
   module _ (e : draft-test-of (real-draft draft) (s .fdt) ≡ none) where
@@ -250,7 +250,7 @@ module _ (s : Sender) (now : ℕ) (draft : Draft) (v : Valid s) where
           means = λ u g. (
               let m = runs-means u (record { window = g .window; sizes = g .sizes; validity = g .validity; carousel = g .carousel }) in
               (λ i. Def.unless ((refusal-view u s g draft ∙ e) i) (desk-of s) (Def.fdt-ran u now (draft-view draft i) (desk-of s)))
-              ∙ ap (λ (r : FdtTurn). (Def.Answer.fdt-output (r .taken) (r .packet), if r .taken then Def.all-published (Def.with-fdt (desk-of s) (r .fdt)) else Def.with-fdt (desk-of s) (r .fdt))) (m .view)
+              ∙ ap (λ (r : DefTurn). (Def.Answer.fdt-output (r .taken) (r .packet), if r .taken then Def.all-published (Def.with-fdt (desk-of s) (r .fdt)) else Def.with-fdt (desk-of s) (r .fdt))) (m .view)
               ∙ (λ i. (answer-view (runs .taken) (runs .session .id) (runs .answer) i, sym (onward-desk s v (runs .fdt) (runs .session) (runs .taken) (t .slots) (t .same)) i)));
           agrees = onward-agrees s v (runs .fdt) (runs .session) (runs .taken) (t .slots) (t .same);
           valid = onward-valid s v (runs .fdt) (runs .session) (runs .taken) (t .slots) (t .same)
@@ -267,7 +267,7 @@ module _ (s : Sender) (now : ℕ) (draft : Draft) (v : Valid s) where
   }
 
 -- refusals 4 and 5 in their order; else it is run
-pub run-fdt-kept : (s : Sender) (now : ℕ) (draft : Draft) → Valid s
+pub run-fdt-kept : (s : Sender) (now : ℕ) (draft : Draft) → ValidSender s
     → Kept s (Def.Call.run-fdt now (draft-given draft)) (fdt-answer (fdt-running-of now draft s .taken) (fdt-running-of now draft s .answer)) (fdt-running-of now draft s .sender)
 unfolding fdt-running-of
 run-fdt-kept s now draft v = by (draft-test-of (real-draft draft) (s .fdt)) refl

@@ -14,11 +14,11 @@ use Rattle.lifecycle.proofs.FdtByNumber.{transfers-listed}
 use Rattle.definition.specs.Session.{Object}
 use Rattle.definition.specs.Desk.{Question, Call, Answer, listed-as, step}
 use Rattle.sender.specs.SessionCalls.{object-of}
-use Rattle.sender.specs.SenderCalls.{working, desk-of, slot-in, Valid, Kept}
+use Rattle.sender.specs.SenderCalls.{working, desk-of, slot-in, ValidSender, Kept}
 use Rattle.sender.specs.declared.sender.Sender.{Sender}
 use Rattle.sender.proofs.DeskChanges.{listed-desk, listed-answer}
 
-module _ (s : Sender) (v : Valid s) (t : ℕ) where
+module _ (s : Sender) (v : ValidSender s) (t : ℕ) where
   pub listed-kept : Kept s (Call.ask (Question.listed t)) (Answer.truth (is-added-of t (s .fdt))) s
   unfolding step
   listed-kept = record { means = λ u w. ap (λ b. (Answer.truth b, desk-of s)) (listed-answer s v t ∙ sym (is-added-as t (s .fdt))); agrees = λ u w. w; valid = v }

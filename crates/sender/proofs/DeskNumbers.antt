@@ -26,7 +26,7 @@ use Rattle.lifecycle.proofs.FdtKeeps.{allocated-width, dropped-width, reserved-
 use Rattle.definition.specs.Desk.{reserve-refusal, release-refusal, Call, Answer, Result, unless, step, not-loose, numbered, reserved, unloosed}
 use Rattle.sender.specs.SessionCalls.{Holds}
 use Rattle.sender.specs.FdtSessionCalls.{FdtHolds}
-use Rattle.sender.specs.SenderCalls.{desk-of, Agrees, Valid, Kept, alloc-answer, with-list, reserving-of, releasing-of, completing-of}
+use Rattle.sender.specs.SenderCalls.{desk-of, Agrees, ValidSender, Kept, alloc-answer, with-list, reserving-of, releasing-of, completing-of}
 use Rattle.sender.specs.declared.sender.Sender.{Sender}
 use Rattle.sender.proofs.DeskChanges.{valid-list, agrees-list}
 use Rattle.sender.proofs.DeskCounts.{full-view, next-view}
@@ -42,7 +42,7 @@ module _ (s : Sender) (c : Bool) (a : ToiAllocator) where
   abbrev pub numbered-sender : Sender
   numbered-sender = with-list s (numbered-list (s .fdt) c a)
 
-  pub kept-numbered : (x : Call) (r : Answer) → Valid s → Holds (numbered-sender .fdt) → FdtHolds (numbered-sender .fdt) → a .width ≡ s .fdt .tois .width
+  pub kept-numbered : (x : Call) (r : Answer) → ValidSender s → Holds (numbered-sender .fdt) → FdtHolds (numbered-sender .fdt) → a .width ≡ s .fdt .tois .width
       → ((u : Setup) → Agrees u s → step u (desk-of s) x ≡ (r, desk-of numbered-sender)) → Kept s x r numbered-sender
   kept-numbered x r v h g e m = record {
     means = m;
@@ -56,7 +56,7 @@ module _ (s : Sender) (c : Bool) (a : ToiAllocator) where
 abbrev after-reserve : Sender → Allocated → Result
 after-reserve s x = (alloc-answer (Alloc.given-said (x .answer)), desk-of (with-list s (with-tois (s .fdt) (x .allocator))))
 
-module _ (s : Sender) (v : Valid s) (u : Setup) (w : Agrees u s) where
+module _ (s : Sender) (v : ValidSender s) (u : Setup) (w : Agrees u s) where
   -- refused or not, by the test that the allocator makes
   reserve-tested : (b : Bool) → ltb (s .fdt .tois .entered) toi-entries ≡ b → step u (desk-of s) Call.reserve ≡ (if b then (Answer.number (s .fdt .tois .next), reserved u (desk-of s)) else (Answer.refused Because.Full, desk-of s))
   unfolding step reserve-refusal desk-of
@@ -92,7 +92,7 @@ module _ (s : Sender) (v : Valid s) (u : Setup) (w : Agrees u s) where
       go (pass e) = reserve-tested true e ∙ reserve-room (ltb-true (s .fdt .tois .entered) toi-entries e)
       go (fail e) = reserve-tested false e ∙ reserve-full (ltb-false (s .fdt .tois .entered) toi-entries e)
 
-pub reserve-kept : (s : Sender) → Valid s → Holds (reserving-of s .sender .fdt) → FdtHolds (reserving-of s .sender .fdt)
+pub reserve-kept : (s : Sender) → ValidSender s → Holds (reserving-of s .sender .fdt) → FdtHolds (reserving-of s .sender .fdt)
     → Kept s Call.reserve (alloc-answer (Alloc.given-said (reserving-of s .answer))) (reserving-of s .sender)
 unfolding reserving-of
 reserve-kept s v =
@@ -112,7 +112,7 @@ released-some t a h = maybe-on (λ (x : Changed). x .answer ≡ Done) (place (Al
 abbrev after-release : Sender → Changed → Result
 after-release s x = (alloc-answer (Alloc.known-said (x .answer)), desk-of (with-list s (with-tois (s .fdt) (x .allocator))))
 
-module _ (s : Sender) (v : Valid s) (u : Setup) (t : ℕ) where
+module _ (s : Sender) (v : ValidSender s) (u : Setup) (t : ℕ) where
   release-some : has t (Alloc.loose (s .fdt .tois)) ≡ true → step u (desk-of s) (Call.release t) ≡ after-release s (Alloc.dropped-of true t (s .fdt .tois))
   unfolding step release-refusal not-loose numbered unloosed desk-of
   release-some h =
@@ -143,7 +143,7 @@ module _ (s : Sender) (v : Valid s) (u : Setup) (t : ℕ) where
       go (pass e) = release-some e
       go (fail e) = release-none e
 
-pub release-kept : (t : ℕ) (s : Sender) → Valid s → Holds (releasing-of t s .sender .fdt) → FdtHolds (releasing-of t s .sender .fdt)
+pub release-kept : (t : ℕ) (s : Sender) → ValidSender s → Holds (releasing-of t s .sender .fdt) → FdtHolds (releasing-of t s .sender .fdt)
     → Kept s (Call.release t) (alloc-answer (Alloc.known-said (releasing-of t s .answer))) (releasing-of t s .sender)
 unfolding releasing-of
 release-kept t s v =
@@ -153,6 +153,6 @@ release-kept t s v =
 
 -- ---- complete
 
-pub complete-kept : (s : Sender) → Valid s → Holds (completing-of s .fdt) → FdtHolds (completing-of s .fdt) → Kept s Call.complete Answer.done (completing-of s)
+pub complete-kept : (s : Sender) → ValidSender s → Holds (completing-of s .fdt) → FdtHolds (completing-of s .fdt) → Kept s Call.complete Answer.done (completing-of s)
 unfolding step desk-of
 complete-kept s v h g = kept-numbered s true (s .fdt .tois) Call.complete Answer.done v h g refl (λ u w. refl)

@@ -15,7 +15,7 @@ use Rattle.lifecycle.specs.Setup.{Setup, bad-blocks}
 use Rattle.lifecycle.specs.FileDesc.{pace-said}
 use Rattle.lifecycle.specs.Slots.{slot-at, published-slot}
 use Rattle.lifecycle.specs.Announce.{state-of, queued-of}
-use Rattle.lifecycle.specs.FdtCalls.{files, sends, with-slots, announced, publication-said}
+use Rattle.lifecycle.specs.FdtCalls.{files, sends, with-slots, with-published, publication-said}
 use Rattle.lifecycle.proofs.FdtMeans.{published-file}
 use Rattle.lifecycle.specs.declared.parts.Part.{Part}
 use Rattle.lifecycle.specs.declared.filedesc.FileDesc.{FileDesc}
@@ -34,7 +34,7 @@ use Rattle.definition.specs.Desk as Def
 use Rattle.sender.specs.EncoderCalls.{encoder-of}
 use Rattle.sender.specs.SessionCalls.{object-of, hand-of, session-of, Holds}
 use Rattle.sender.specs.FdtSessionCalls.{FdtHolds, fdt-hand-of}
-use Rattle.sender.specs.SenderCalls.{working, desk-of, Agrees, Valid, Kept, alloc-answer, with-list, publishing-of}
+use Rattle.sender.specs.SenderCalls.{working, desk-of, Agrees, ValidSender, Kept, alloc-answer, with-list, publishing-of}
 use Rattle.sender.specs.declared.sendersession.SenderSession.{SenderSession}
 use Rattle.sender.specs.declared.fdtsession.FdtSession.{FdtSession}
 use Rattle.sender.specs.declared.sender.Sender.{Sender}
@@ -61,9 +61,9 @@ published-hand y x =
 
 -- the sender with another FDT side
 abbrev pub with-side : Sender → Announcer → FdtSession → Sender
-with-side s a y = record { fdt = announced (s .fdt) a; window = s .window; count = s .count; sessions = s .sessions; «fdt_session» = y }
+with-side s a y = record { fdt = with-published (s .fdt) a; window = s .window; count = s .count; sessions = s .sessions; «fdt_session» = y }
 
-pub announced-desk : (s : Sender) → Valid s → (a : Announcer) (y : FdtSession)
+pub announced-desk : (s : Sender) → ValidSender s → (a : Announcer) (y : FdtSession)
     → desk-of (with-side s a y) ≡ Def.all-published (Def.with-fdt (desk-of s) (record { state = state-of a; hand = fdt-hand-of y }))
 unfolding desk-of Def.all-published Def.moved Def.with-fdt
 announced-desk s v a y = λ i. record {
@@ -84,7 +84,7 @@ announced-desk s v a y = λ i. record {
         (λ j x e. ap (λ (z : Slot). hand-of z x) (published-at (s .fdt .slots) j) ∙ published-hand (slot-at (s .fdt .slots) j) x)
 
 -- what is in transfer stays in transfer, with its part and sizes
-pub announced-stays : (f : Fdt) (a : Announcer) → a .current .life .transferring ≡ f .announcer .current .life .transferring → Stays f (announced f a)
+pub announced-stays : (f : Fdt) (a : Announcer) → a .current .life .transferring ≡ f .announcer .current .life .transferring → Stays f (with-published f a)
 announced-stays f a e = record {
   settings = refl;
   sent-same = λ j. ap sends (published-at (f .slots) j) ∙ marks-slot (slot-at (f .slots) j) .sent;
@@ -96,7 +96,7 @@ announced-stays f a e = record {
 -- ---- the call
 
 -- why it is refused
-pub refusal-view : (u : Setup) (s : Sender) → Valid s → Agrees u s → (c : Part) → Def.publish-refusal u (desk-of s .fdt) c ≡ publish-refusal-of c (s .fdt)
+pub refusal-view : (u : Setup) (s : Sender) → ValidSender s → Agrees u s → (c : Part) → Def.publish-refusal u (desk-of s .fdt) c ≡ publish-refusal-of c (s .fdt)
 unfolding Def.publish-refusal desk-of
 refusal-view u s v g c = λ i. first-of
     ((Because.Sizes, bad-blocks (g .sizes i) (c .size))
@@ -104,7 +104,7 @@ refusal-view u s v g c = λ i. first-of
     ∷ (Because.Full, leb waiting-fdts (waiting-length (s .fdt .announcer) (v .holds .valid .fdts) i))
     ∷ [])
 
-module _ (s : Sender) (now : ℕ) (c : Part) (v : Valid s) where
+module _ (s : Sender) (now : ℕ) (c : Part) (v : ValidSender s) where
   publish-refused : (n : Refusal) → ((u : Setup) → Agrees u s → Def.publish-refusal u (desk-of s .fdt) c ≡ some n) → Kept s (Def.Call.publish now c) (Def.Answer.refused n) s
   unfolding Def.step
   publish-refused n h = record {
@@ -114,12 +114,12 @@ module _ (s : Sender) (now : ℕ) (c : Part) (v : Valid s) where
   }
 
   publish-done : ((u : Setup) → Agrees u s → Def.publish-refusal u (desk-of s .fdt) c ≡ none) → s .fdt .announcer .waiting < waiting-fdts
-      → Holds (announced (s .fdt) (queued-of now c (s .fdt .announcer))) → FdtHolds (announced (s .fdt) (queued-of now c (s .fdt .announcer)))
-      → Kept s (Def.Call.publish now c) Def.Answer.done (with-list s (announced (s .fdt) (queued-of now c (s .fdt .announcer))))
+      → Holds (with-published (s .fdt) (queued-of now c (s .fdt .announcer))) → FdtHolds (with-published (s .fdt) (queued-of now c (s .fdt .announcer)))
+      → Kept s (Def.Call.publish now c) Def.Answer.done (with-list s (with-published (s .fdt) (queued-of now c (s .fdt .announcer))))
   unfolding Def.step fdt-published desk-of
   publish-done h room a b =
       let n = queued-of now c (s .fdt .announcer) in
-      let f = announced (s .fdt) n in
+      let f = with-published (s .fdt) n in
       let st = state-queued (s .fdt .announcer) (v .holds .valid .fdts) now c room in
       record {
         means = λ u g. (

@@ -29,7 +29,7 @@ use Rattle.lifecycle.proofs.FdtAdds.{refusal-view}
 use Rattle.definition.specs.Session as DefS
 use Rattle.definition.specs.Desk as Def
 use Rattle.sender.specs.SessionCalls.{object-of, session-of}
-use Rattle.sender.specs.SenderCalls.{working, desk-of, Agrees, Valid, named-said, own-said, object-said, has-priority, request-of}
+use Rattle.sender.specs.SenderCalls.{working, desk-of, Agrees, ValidSender, named-said, own-said, object-said, has-priority, request-of}
 use Rattle.sender.specs.declared.sender.Sender.{Sender}
 use Rattle.sender.specs.declared.sender.Object.{Object}
 use Rattle.sender.proofs.DeskCounts.{owners, objects-view, owners-used, full-slots, full-view}
@@ -49,7 +49,7 @@ own-view u z e o = go (o .own)
     go OwnV.SetUp = e ∙ sym (own-set-up z)
 
 -- refusal 5
-pub part-view : (u : Setup) (s : Sender) → Agrees u s → Valid s → (c : Part) → Def.bad-object-part u (desk-of s) c ≡ bad-part-of (s .fdt) c
+pub part-view : (u : Setup) (s : Sender) → Agrees u s → ValidSender s → (c : Part) → Def.bad-object-part u (desk-of s) c ≡ bad-part-of (s .fdt) c
 unfolding Def.bad-object-part
 part-view u s a v c =
     let ok : DefS.Object → Bool = λ o. shares c (o .part) in
@@ -64,7 +64,7 @@ not-loose-view s (NamedV.Toi t) = refl
 not-loose-view s NamedV.Anew = refl
 
 -- refusal 7
-pub no-room-view : (s : Sender) → Valid s → (named : Named) → Def.no-room (desk-of s) (named-said named) ≡ full named (s .fdt)
+pub no-room-view : (s : Sender) → ValidSender s → (named : Named) → Def.no-room (desk-of s) (named-said named) ≡ full named (s .fdt)
 unfolding Def.no-room
 no-room-view s v (NamedV.Toi t) = or-nothing (leb object-slots (length (Def.objects (desk-of s)))) ∙ full-slots s v
   where
@@ -74,7 +74,7 @@ no-room-view s v (NamedV.Toi t) = or-nothing (leb object-slots (length (Def.obje
 no-room-view s v NamedV.Anew = λ i. full-slots s v i || full-view s v i
 
 -- the table: 2, and then the list's own
-pub add-refusal-view : (u : Setup) (s : Sender) → Agrees u s → Valid s → (o : Object) (named : Named)
+pub add-refusal-view : (u : Setup) (s : Sender) → Agrees u s → ValidSender s → (o : Object) (named : Named)
     → Def.add-refusal u (desk-of s) (named-said named) (object-said o)
     ≡ (if not (any (has-priority (o .priority)) (working s)) then some Because.NoPriority else refusal (added-of (s .fdt) (request-of o) named .answer))
 unfolding Def.add-refusal desk-of request-of

@@ -33,11 +33,11 @@ use Rattle.definition.specs.Desk as Def
 use Rattle.sender.specs.SessionCalls.{session-of, Runs, idle-of, ran-by, served-of, forced-slot, attended-of, taken-by, taken-on-of, again-by, ran-of}
 use Rattle.sender.specs.FdtSessionCalls.{fdt-hand-of}
 use Rattle.sender.specs.SessionMeans.{Stands, queue-of}
-use Rattle.sender.specs.SenderCalls.{working, desk-of, Agrees, slot-in, Valid, Kept, file-answer, answer-of, running-of}
+use Rattle.sender.specs.SenderCalls.{working, desk-of, Agrees, slot-in, ValidSender, Kept, file-answer, answer-of, running-of}
 use Rattle.sender.specs.declared.sendersession.SenderSession.{SenderSession}
-use Rattle.sender.specs.declared.sendersession.Served.{Served}
-use Rattle.sender.specs.declared.sendersession.Served.the-variants.{Idle, Sent, Over}
-use Rattle.sender.specs.declared.sendersession.Ran.{Ran}
+use Rattle.sender.specs.declared.sendersession.Outcome.{Outcome}
+use Rattle.sender.specs.declared.sendersession.Outcome.the-variants.{Idle, Sent, Over}
+use Rattle.sender.specs.declared.sendersession.Turn.{Turn}
 use Rattle.sender.specs.declared.sender.Sender.{Sender}
 use Rattle.sender.specs.declared.sender.Running.{Running}
 use Rattle.sender.proofs.SessionFacts.{stands-runs, has-slot, packet-said, turn-of, SameSide, FileRuns}
@@ -47,7 +47,7 @@ use Rattle.sender.proofs.DeskChanges.{working-stands}
 
 -- ---- the width of the numbers stays
 
-ran-by-width : (now : ℕ) (f : Fdt) (x y : SenderSession) (a : Served) → ran-by now f x y a .fdt .tois .width ≡ f .tois .width
+ran-by-width : (now : ℕ) (f : Fdt) (x y : SenderSession) (a : Outcome) → ran-by now f x y a .fdt .tois .width ≡ f .tois .width
 ran-by-width now f x y Over = done-keeps f now (x .slot) .width
 ran-by-width now f x y Idle = refl
 ran-by-width now f x y (Sent s) = refl
@@ -69,10 +69,10 @@ taken-on-width w now f x = go (taken-of (x .priority) now f .fdt) (taken-of (x .
 pub ran-width : (w now : ℕ) (f : Fdt) (x : SenderSession) → ran-of w now f x .fdt .tois .width ≡ f .tois .width
 unfolding ran-of
 ran-width w now f x =
-    if-on (λ (r : Ran). r .fdt .tois .width ≡ f .tois .width) (x .busy)
+    if-on (λ (r : Turn). r .fdt .tois .width ≡ f .tois .width) (x .busy)
     (λ e. go (attended-of now f x) (attended-of now f x .answer) ∙ attended-width now f x) (λ e. taken-on-width w now f x)
   where
-    go : (a : Ran) (b : Served) → again-by w now a b .fdt .tois .width ≡ a .fdt .tois .width
+    go : (a : Turn) (b : Outcome) → again-by w now a b .fdt .tois .width ≡ a .fdt .tois .width
     go a Over = taken-on-width w now (a .fdt) (a .session)
     go a Idle = refl
     go a (Sent s) = refl
@@ -107,7 +107,7 @@ hand-adds : (x : SenderSession) (j : ℕ) → adds j (slot-in x) ≡ one-if (has
 hand-adds x j = elim (x .busy) as (λ b. adds j (if b then some (x .slot) else none) ≡ one-if (b && eqb (x .slot) j)) [ true ↦ refl | false ↦ refl ]
 
 -- the definition's answer is that of the code
-answer-said : (toi : ℕ) (a : Served) → Def.Answer.output (packet-said toi a) ≡ file-answer (answer-of false toi 0 a)
+answer-said : (toi : ℕ) (a : Outcome) → Def.Answer.output (packet-said toi a) ≡ file-answer (answer-of false toi 0 a)
 answer-said toi Idle = refl
 answer-said toi Over = refl
 answer-said toi (Sent y) = refl
@@ -127,12 +127,12 @@ windowed w = record {
   validity = 0;
 }
 
-module _ (s : Sender) (v : Valid s) (i now : ℕ) (h : i < s .count) where
+module _ (s : Sender) (v : ValidSender s) (i now : ℕ) (h : i < s .count) where
   -- the session, its run, and the sender after it
   abbrev x : SenderSession
   x = getD (s .sessions) i (idle-of 0)
 
-  abbrev r : Ran
+  abbrev r : Turn
   r = ran-of (s .window) now (s .fdt) x
 
   abbrev s′ : Sender
@@ -240,7 +240,7 @@ module _ (s : Sender) (v : Valid s) (i now : ℕ) (h : i < s .count) where
         (ran-counts u (s .window) now window (s .fdt) x ready stands (collect slot-in (working s)) (collect slot-in (set (working s) i (r .session))) (v .in-hand)
         (λ j. let a = collect-set slot-in j (working s) i x (r .session) at-i in let b = hand-adds x j in let c = hand-adds (r .session) j in omega arith))
 
-    valid-run : Valid s′
+    valid-run : ValidSender s′
     valid-run = record {
       holds = runs .holds;
       fdt-holds = fdt-holds-over (s .fdt) (r .fdt) (v .fdt-holds) (runs .holds .valid) (same .settings) (same .announcer);
@@ -279,7 +279,7 @@ module _ (s : Sender) (v : Valid s) (i now : ℕ) (h : i < s .count) where
   kept-run = record { means = step-run; agrees = λ u a. agrees-run u (a .window) a; valid = valid-run (windowed (s .window)) refl }
 
 -- refusal 8: there is no such session
-kept-refused : (s : Sender) → Valid s → (i now : ℕ) → s .count ≤ i → Kept s (Def.Call.run-file i now) (Def.Answer.refused Because.NoSession) s
+kept-refused : (s : Sender) → ValidSender s → (i now : ℕ) → s .count ≤ i → Kept s (Def.Call.run-file i now) (Def.Answer.refused Because.NoSession) s
 unfolding Def.step desk-of
 kept-refused s v i now h = record {
   means = λ u a. ap (maybe (Def.Answer.refused Because.NoSession, desk-of s) (Def.ran u now i (desk-of s))) (at-map (session-of (s .fdt .slots)) (working s) i ∙ ap (over (session-of (s .fdt .slots))) (at-past (s .sessions) (s .count) i h));
@@ -289,17 +289,17 @@ kept-refused s v i now h = record {
 
 -- ---- the call
 
-pub run-kept : (s : Sender) (i now : ℕ) → Valid s → Kept s (Def.Call.run-file i now) (file-answer (running-of i now s .answer)) (running-of i now s .sender)
+pub run-kept : (s : Sender) (i now : ℕ) → ValidSender s → Kept s (Def.Call.run-file i now) (file-answer (running-of i now s .answer)) (running-of i now s .sender)
 unfolding running-of
 run-kept s i now v = if-on (λ (a : Running). Kept s (Def.Call.run-file i now) (file-answer (a .answer)) (a .sender)) (ltb i (s .count))
     (λ e. kept-run s v i now (ltb-true i (s .count) e)) (λ e. kept-refused s v i now (ltb-false i (s .count) e))
 
 -- what the code's run requires
-pub runs-ready : (s : Sender) (i : ℕ) → Valid s → i < s .count → Runs (s .fdt) (s .window) (getD (s .sessions) i (idle-of 0))
+pub runs-ready : (s : Sender) (i : ℕ) → ValidSender s → i < s .count → Runs (s .fdt) (s .window) (getD (s .sessions) i (idle-of 0))
 runs-ready s i v h = stands-runs (s .fdt) (s .window) (getD (s .sessions) i (idle-of 0)) (v .holds) (v .narrow) (v .sessions i h)
 
 -- the session's slot after it is one of the list's
-pub ran-slot : (s : Sender) (i now : ℕ) → Valid s → i < s .count → ran-of (s .window) now (s .fdt) (getD (s .sessions) i (idle-of 0)) .session .slot < object-slots
+pub ran-slot : (s : Sender) (i now : ℕ) → ValidSender s → i < s .count → ran-of (s .window) now (s .fdt) (getD (s .sessions) i (idle-of 0)) .session .slot < object-slots
 ran-slot s i now v h =
     let x = getD (s .sessions) i (idle-of 0) in
     let r = ran-of (s .window) now (s .fdt) x in

@@ -14,10 +14,10 @@ use Rattle.definition.specs.FdtSession as Def
 use Rattle.sender.specs.EncoderCalls.{symbol-said}
 use Rattle.sender.specs.FdtSessionCalls.{FdtHolds, GoodDraft, FdtTries, fdt-idle-of}
 use Rattle.sender.specs.SessionMeans.{FdtInHand, fdt-carousel-of, fdt-of}
-use Rattle.sender.specs.declared.sendersession.Served.{Served}
-use Rattle.sender.specs.declared.sendersession.Served.the-variants.{Idle, Sent, Over}
+use Rattle.sender.specs.declared.sendersession.Outcome.{Outcome}
+use Rattle.sender.specs.declared.sendersession.Outcome.the-variants.{Idle, Sent, Over}
 use Rattle.sender.specs.declared.fdtsession.FdtSession.{FdtSession}
-use Rattle.sender.specs.declared.fdtsession.FdtRan.{FdtRan}
+use Rattle.sender.specs.declared.fdtsession.FdtTurn.{FdtTurn}
 
 -- ---- between two calls
 
@@ -44,17 +44,17 @@ pub record SetFor (u : Setup) (w : ℕ) (z : Settings) : Type 0 where
   pub carousel : u .carousel ≡ fdt-carousel-of z
 
 -- the packet of an answer, for the FDT with this id
-abbrev pub fdt-packet-said : ℕ → Served → Option Packet
+abbrev pub fdt-packet-said : ℕ → Outcome → Option Packet
 fdt-packet-said id Idle = none
 fdt-packet-said id (Sent s) = some record { id = some id; toi = 0; symbol = symbol-said s }
 fdt-packet-said id Over = none
 
 -- what a run comes to
-abbrev pub fdt-turn-of : FdtRan → Def.FdtTurn
+abbrev pub fdt-turn-of : FdtTurn → Def.FdtTurn
 fdt-turn-of r = record { taken = r .taken; packet = fdt-packet-said (r .session .id) (r .answer); fdt = fdt-of (r .fdt) (r .session) }
 
 -- a run from list f is the definition's turn m; what it leaves in hand, what it marks, and what stays
-pub record FdtTurns (w : ℕ) (f : Fdt) (m : Def.FdtTurn) (r : FdtRan) : Type 0 where
+pub record FdtTurns (w : ℕ) (f : Fdt) (m : Def.FdtTurn) (r : FdtTurn) : Type 0 where
   pub view : m ≡ fdt-turn-of r
   pub holds : FdtHolds (r .fdt)
   pub stands : FdtStands (r .fdt) w (r .session)

@@ -14,31 +14,31 @@ use Rattle.sizes.proofs.Tests.{none≢some}
 use Rattle.lifecycle.specs.Setup.{bad-blocks}
 use Rattle.lifecycle.specs.Announce.{draft-given, bad-fdt-of}
 use Rattle.lifecycle.specs.FdtCalls.{publish-of, draft-test-of, next-fdt-of, fdt-done-of}
-use Rattle.lifecycle.specs.FdtCalls.{Valid as ListValid}
+use Rattle.lifecycle.specs.FdtCalls.{ValidFdt}
 use Rattle.lifecycle.specs.declared.parts.Part.{Part}
 use Rattle.lifecycle.specs.declared.announce.Announcer.{Announcer}
 use Rattle.lifecycle.specs.declared.announce.Draft.{Draft}
 use Rattle.lifecycle.specs.declared.announce.Draft.the-variants.{Given, Missing}
 use Rattle.lifecycle.specs.declared.fdt.Fdt.{Fdt}
 use Rattle.lifecycle.specs.declared.fdt.Settings.{Settings}
-use Rattle.lifecycle.specs.declared.fdt.NextOf.{NextOf}
+use Rattle.lifecycle.specs.declared.fdt.NextFdt.{NextFdt}
 use Rattle.lifecycle.specs.declared.fdt.Published.{Published}
 use Rattle.lifecycle.proofs.PublishLaws.{valid-publish, valid-next-fdt, valid-fdt-done}
 use Rattle.lifecycle.proofs.FdtFacts.{if-on}
 use Rattle.lifecycle.proofs.FdtKeeps.{publish-refusal-of, publishable, published-by, publish-as, draft-test-as}
 use Rattle.lifecycle.proofs.AnnounceKeep.{EachFdt, queued-each, next-fdt-objects, next-fdt-each, next-fdt-current, fdt-done-objects, fdt-done-each, fdt-lies-in}
 use Rattle.sender.specs.EncoderCalls.{new-of, read-of}
-use Rattle.sender.specs.EncoderCalls.{Valid as EncoderValid}
+use Rattle.sender.specs.EncoderCalls.{ValidEncoder}
 use Rattle.sender.specs.FdtSessionCalls.{GoodPart, FdtHolds, GoodDraft, FdtTries, left-of, fdt-idle-of, fdt-begun-of, fdt-sent-by, fdt-sent-of, fdt-attempted-of, fdt-again-by, fdt-ran-of}
 use Rattle.sender.specs.declared.blockencoder.BlockEncoder.{BlockEncoder}
 use Rattle.sender.specs.declared.blockencoder.Symbol.{Symbol}
 use Rattle.sender.specs.declared.blockencoder.Emitted.{Emitted}
 use Rattle.sender.specs.declared.blockencoder.Emitted.the-variants as EmittedV
 use Rattle.sender.specs.declared.blockencoder.Read.{Read}
-use Rattle.sender.specs.declared.sendersession.Served.{Served}
-use Rattle.sender.specs.declared.sendersession.Served.the-variants.{Idle, Sent, Over}
+use Rattle.sender.specs.declared.sendersession.Outcome.{Outcome}
+use Rattle.sender.specs.declared.sendersession.Outcome.the-variants.{Idle, Sent, Over}
 use Rattle.sender.specs.declared.fdtsession.FdtSession.{FdtSession}
-use Rattle.sender.specs.declared.fdtsession.FdtRan.{FdtRan}
+use Rattle.sender.specs.declared.fdtsession.FdtTurn.{FdtTurn}
 use Rattle.sender.proofs.EncoderReads.{read-means}
 use Rattle.sender.proofs.EncoderPromises.{new-sound}
 
@@ -51,15 +51,15 @@ Parts f = EachFdt (GoodPart (f .settings .sizes)) (f .announcer)
 holds-parts : (f : Fdt) → FdtHolds f → Parts f
 holds-parts f h = record { waiting = h .waiting; current = h .current }
 
-parts-hold : (f : Fdt) → ListValid f → Parts f → FdtHolds f
+parts-hold : (f : Fdt) → ValidFdt f → Parts f → FdtHolds f
 parts-hold f v p = record { valid = v; waiting = p .waiting; current = p .current }
 
 -- a call that leaves the settings
-parts-set : (f r : Fdt) → ListValid r → r .settings ≡ f .settings → EachFdt (GoodPart (f .settings .sizes)) (r .announcer) → FdtHolds r
+parts-set : (f r : Fdt) → ValidFdt r → r .settings ≡ f .settings → EachFdt (GoodPart (f .settings .sizes)) (r .announcer) → FdtHolds r
 parts-set f r v s p = parts-hold r v (subst (λ (z : Settings). EachFdt (GoodPart (z .sizes)) (r .announcer)) (sym s) p)
 
 -- and the FDT side
-pub fdt-holds-over : (f r : Fdt) → FdtHolds f → ListValid r → r .settings ≡ f .settings → r .announcer ≡ f .announcer → FdtHolds r
+pub fdt-holds-over : (f r : Fdt) → FdtHolds f → ValidFdt r → r .settings ≡ f .settings → r .announcer ≡ f .announcer → FdtHolds r
 fdt-holds-over f r h v s a = parts-set f r v s (subst (EachFdt (GoodPart (f .settings .sizes))) (sym a) (holds-parts f h))
 
 draft-good : (z : Sizes) (draft : Draft) → GoodDraft z draft → (c : Part) → draft-given draft ≡ some c → GoodPart z c
@@ -114,7 +114,7 @@ if-no true x y e = absurd (true≢false e)
 if-no false x y e = refl
 
 -- the current FDT's encoder is one of it
-pub fdt-begun-valid : (w id : ℕ) (c : Part) (z : Sizes) → w ≤ largest-window → GoodPart z c → EncoderValid (fdt-begun-of w id c z .encoder)
+pub fdt-begun-valid : (w id : ℕ) (c : Part) (z : Sizes) → w ≤ largest-window → GoodPart z c → ValidEncoder (fdt-begun-of w id c z .encoder)
 unfolding fdt-begun-of new-of
 fdt-begun-valid w id c z n g = new-sound c z w false (record { cut = refl; sizes = g .sizes; fits = g .fits }) n
 
@@ -145,45 +145,45 @@ module _ (now : ℕ) (taken : Bool) (f : Fdt) (x : FdtSession) where
   unfolding fdt-sent-of
   sent-tries w draft t = if-on Tries (x .busy) (λ e. by (read-of false (x .encoder) .encoder) (read-of false (x .encoder) .answer) (read-means false (x .encoder) (t .busy e) .valid)) (λ e. t)
     where
-      Tries : FdtRan → Type 0
+      Tries : FdtTurn → Type 0
       Tries r = FdtTries (r .fdt) w draft (r .session)
 
-      by : (y : BlockEncoder) (a : Emitted) → EncoderValid y → Tries (fdt-sent-by now taken f x y a)
+      by : (y : BlockEncoder) (a : Emitted) → ValidEncoder y → Tries (fdt-sent-by now taken f x y a)
       by y EmittedV.Nothing v = record { holds = fdt-holds-done now f (t .holds); narrow = t .narrow; looked = subst (λ (s : Settings). GoodDraft (s .sizes) draft) (sym (fdt-done-objects now f .settings)) (t .looked); busy = λ e. absurd (false≢true e) }
       by y (EmittedV.One s) v = record { holds = t .holds; narrow = t .narrow; looked = t .looked; busy = λ e. v }
 
 module _ (w now : ℕ) (draft : Draft) (taken : Bool) (f : Fdt) (x : FdtSession) where
-  abbrev asked : NextOf
+  abbrev asked : NextFdt
   asked = next-fdt-of now (left-of draft taken) f
 
   -- the session with the FDT that starts in hand
-  abbrev starting : NextOf → FdtSession
+  abbrev starting : NextFdt → FdtSession
   starting n = fdt-begun-of w (n .fdt .announcer .current .id) (n .fdt .announcer .current .part) (f .settings .sizes)
 
   pub attempted-busy : x .busy ≡ true → fdt-sent-of now taken f x ≡ fdt-attempted-of w now draft taken f x
   unfolding fdt-attempted-of
   attempted-busy e = if-yes (x .busy) _ _ e
 
-  attempted-free : x .busy ≡ false → (b : Bool) (n : NextOf) → n ≡ asked → n .starts ≡ b
+  attempted-free : x .busy ≡ false → (b : Bool) (n : NextFdt) → n ≡ asked → n .starts ≡ b
       → fdt-sent-of now (taken || n .taken) (n .fdt) (if b then starting n else x) ≡ fdt-attempted-of w now draft taken f x
   unfolding fdt-attempted-of
   attempted-free e b n q s =
       ap (λ b. fdt-sent-of now (taken || n .taken) (n .fdt) (if b then starting n else x)) (sym s)
-      ∙ ap (λ (n : NextOf). fdt-sent-of now (taken || n .taken) (n .fdt) (if n .starts then starting n else x)) q
+      ∙ ap (λ (n : NextFdt). fdt-sent-of now (taken || n .taken) (n .fdt) (if n .starts then starting n else x)) q
       ∙ if-no (x .busy) _ _ e
 
-  pub attempted-left : x .busy ≡ false → (n : NextOf) → n ≡ asked → n .starts ≡ false
+  pub attempted-left : x .busy ≡ false → (n : NextFdt) → n ≡ asked → n .starts ≡ false
       → fdt-sent-of now (taken || n .taken) (n .fdt) x ≡ fdt-attempted-of w now draft taken f x
   attempted-left e = attempted-free e false
 
-  pub attempted-begun : x .busy ≡ false → (n : NextOf) → n ≡ asked → n .starts ≡ true
+  pub attempted-begun : x .busy ≡ false → (n : NextFdt) → n ≡ asked → n .starts ≡ true
       → fdt-sent-of now (taken || n .taken) (n .fdt) (starting n) ≡ fdt-attempted-of w now draft taken f x
   attempted-begun e = attempted-free e true
 
   module _ (t : FdtTries f w draft x) where
     -- after the question for the next FDT
-    pub left-tries : (n : NextOf) → n ≡ asked → FdtTries (n .fdt) w draft x
-    left-tries n q = subst (λ (n : NextOf). FdtTries (n .fdt) w draft x) (sym q) (record {
+    pub left-tries : (n : NextFdt) → n ≡ asked → FdtTries (n .fdt) w draft x
+    left-tries n q = subst (λ (n : NextFdt). FdtTries (n .fdt) w draft x) (sym q) (record {
       holds = fdt-holds-next now (left-of draft taken) f (t .holds) (good-left (f .settings .sizes) draft (t .looked) taken);
       narrow = t .narrow;
       looked = subst (λ s. GoodDraft (s .sizes) draft) (sym (next-fdt-objects now (left-of draft taken) f .settings)) (t .looked);
@@ -191,12 +191,12 @@ module _ (w now : ℕ) (draft : Draft) (taken : Bool) (f : Fdt) (x : FdtSession)
     })
 
     -- with the one that starts in hand
-    pub begun-tries : (n : NextOf) → n ≡ asked → n .starts ≡ true → FdtTries (n .fdt) w draft (starting n)
+    pub begun-tries : (n : NextFdt) → n ≡ asked → n .starts ≡ true → FdtTries (n .fdt) w draft (starting n)
     begun-tries n q s =
         let u = left-tries n q in
         let c = n .fdt .announcer .current .part in
-        let z = ap (λ (n : NextOf). n .fdt .settings .sizes) q ∙ ap (λ s. s .sizes) (next-fdt-objects now (left-of draft taken) f .settings) in
-        let h = ap (λ (n : NextOf). n .fdt .announcer .«has_current») q ∙ next-fdt-current now (left-of draft taken) f (ap (λ (n : NextOf). n .starts) (sym q) ∙ s) in
+        let z = ap (λ (n : NextFdt). n .fdt .settings .sizes) q ∙ ap (λ s. s .sizes) (next-fdt-objects now (left-of draft taken) f .settings) in
+        let h = ap (λ (n : NextFdt). n .fdt .announcer .«has_current») q ∙ next-fdt-current now (left-of draft taken) f (ap (λ (n : NextFdt). n .starts) (sym q) ∙ s) in
         record {
           holds = u .holds;
           narrow = u .narrow;
@@ -207,32 +207,32 @@ module _ (w now : ℕ) (draft : Draft) (taken : Bool) (f : Fdt) (x : FdtSession)
     -- after a round
     pub attempted-tries : FdtTries (fdt-attempted-of w now draft taken f x .fdt) w draft (fdt-attempted-of w now draft taken f x .session)
     unfolding fdt-attempted-of
-    attempted-tries = if-on (λ (r : FdtRan). FdtTries (r .fdt) w draft (r .session)) (x .busy) (λ e. sent-tries now taken f x w draft t) (λ e.
+    attempted-tries = if-on (λ (r : FdtTurn). FdtTries (r .fdt) w draft (r .session)) (x .busy) (λ e. sent-tries now taken f x w draft t) (λ e.
         sent-tries now (taken || asked .taken) (asked .fdt) (if asked .starts then starting asked else x) w draft
         (if-on (FdtTries (asked .fdt) w draft) (asked .starts) (λ s. begun-tries asked refl s) (λ s. left-tries asked refl)))
 
 -- ---- a run
 
 module _ (w now : ℕ) (draft : Draft) (f : Fdt) (x : FdtSession) where
-  abbrev first-round : FdtRan
+  abbrev first-round : FdtTurn
   first-round = fdt-attempted-of w now draft false f x
 
-  ran-by : (a : FdtRan) → a ≡ first-round → fdt-again-by w now draft a (a .answer) ≡ fdt-ran-of w now draft f x
+  ran-by : (a : FdtTurn) → a ≡ first-round → fdt-again-by w now draft a (a .answer) ≡ fdt-ran-of w now draft f x
   unfolding fdt-ran-of
-  ran-by a q = ap (λ (a : FdtRan). fdt-again-by w now draft a (a .answer)) q
+  ran-by a q = ap (λ (a : FdtTurn). fdt-again-by w now draft a (a .answer)) q
 
   -- the second round may be run
-  pub round-tries : FdtTries f w draft x → (a : FdtRan) → a ≡ first-round → FdtTries (a .fdt) w draft (a .session)
-  round-tries t a q = subst (λ (a : FdtRan). FdtTries (a .fdt) w draft (a .session)) (sym q) (attempted-tries w now draft false f x t)
+  pub round-tries : FdtTries f w draft x → (a : FdtTurn) → a ≡ first-round → FdtTries (a .fdt) w draft (a .session)
+  round-tries t a q = subst (λ (a : FdtTurn). FdtTries (a .fdt) w draft (a .session)) (sym q) (attempted-tries w now draft false f x t)
 
   -- what a run comes to, in each case
-  pub ran-over : (a : FdtRan) → a ≡ first-round → a .answer ≡ Over → (r : FdtRan) → r ≡ fdt-attempted-of w now draft (a .taken) (a .fdt) (a .session) → r ≡ fdt-ran-of w now draft f x
+  pub ran-over : (a : FdtTurn) → a ≡ first-round → a .answer ≡ Over → (r : FdtTurn) → r ≡ fdt-attempted-of w now draft (a .taken) (a .fdt) (a .session) → r ≡ fdt-ran-of w now draft f x
   ran-over a q e r s = s ∙ ap (fdt-again-by w now draft a) (sym e) ∙ ran-by a q
 
-  pub ran-once : (a : FdtRan) → a ≡ first-round → (a .answer ≡ Over → ⊥) → a ≡ fdt-ran-of w now draft f x
+  pub ran-once : (a : FdtTurn) → a ≡ first-round → (a .answer ≡ Over → ⊥) → a ≡ fdt-ran-of w now draft f x
   ran-once a q n = once (a .answer) n ∙ ran-by a q
     where
-      once : (s : Served) → (s ≡ Over → ⊥) → a ≡ fdt-again-by w now draft a s
+      once : (s : Outcome) → (s ≡ Over → ⊥) → a ≡ fdt-again-by w now draft a s
       once Idle h = refl
       once (Sent s) h = refl
       once Over h = absurd (h refl)

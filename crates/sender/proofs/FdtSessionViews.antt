@@ -11,16 +11,16 @@ use Rattle.sizes.proofs.Tests.{Tested, pass, fail, tested}
 use Rattle.lifecycle.specs.Setup.{Setup}
 use Rattle.lifecycle.specs.Fdt as DefState
 use Rattle.lifecycle.specs.FileDesc.{plan-of}
-use Rattle.lifecycle.specs.Announce.{instance-of, state-of, draft-given, fdt-rule}
+use Rattle.lifecycle.specs.Announce.{instance-of, state-of, draft-given, fdt-plan-of}
 use Rattle.lifecycle.specs.FdtCalls.{next-fdt-of, fdt-done-of}
 use Rattle.lifecycle.specs.declared.parts.Part.{Part}
 use Rattle.lifecycle.specs.declared.slots.Slot.{Slot}
 use Rattle.lifecycle.specs.declared.announce.Announcer.{Announcer}
 use Rattle.lifecycle.specs.declared.announce.Draft.{Draft}
 use Rattle.lifecycle.specs.declared.fdt.Fdt.{Fdt}
-use Rattle.lifecycle.specs.declared.fdt.NextOf.{NextOf}
+use Rattle.lifecycle.specs.declared.fdt.NextFdt.{NextFdt}
 use Rattle.lifecycle.specs.declared.fdt.Settings.{Settings}
-use Rattle.lifecycle.proofs.AnnounceLaws.{rule-said, state-done}
+use Rattle.lifecycle.proofs.AnnounceLaws.{plan-said, state-done}
 use Rattle.lifecycle.proofs.AnnounceLaws as Laws
 use Rattle.lifecycle.proofs.AnnounceKeep.{SameObjects, objects-same, objects-on, marked-slots, next-fdt-taken, next-fdt-starts, next-fdt-side, next-fdt-objects, next-fdt-slots, next-fdt-untaken, next-fdt-current, fdt-done-side, fdt-done-objects, fdt-done-slots}
 use Rattle.definition.specs.Encoder as DefEncoder
@@ -32,9 +32,9 @@ use Rattle.sender.specs.declared.blockencoder.Symbol.{Symbol}
 use Rattle.sender.specs.declared.blockencoder.Emitted.{Emitted}
 use Rattle.sender.specs.declared.blockencoder.Emitted.the-variants as EmittedV
 use Rattle.sender.specs.declared.blockencoder.Read.{Read}
-use Rattle.sender.specs.declared.sendersession.Served.the-variants.{Idle, Sent, Over}
+use Rattle.sender.specs.declared.sendersession.Outcome.the-variants.{Idle, Sent, Over}
 use Rattle.sender.specs.declared.fdtsession.FdtSession.{FdtSession}
-use Rattle.sender.specs.declared.fdtsession.FdtRan.{FdtRan}
+use Rattle.sender.specs.declared.fdtsession.FdtTurn.{FdtTurn}
 use Rattle.sender.proofs.EncoderReads.{read-means}
 use Rattle.sender.proofs.FdtSessionFacts.{FdtStands, fdt-idle-stands, SetFor, FdtTurns}
 use Rattle.sender.proofs.FdtSessionLaws.{fdt-holds-next, fdt-holds-done, fdt-begun-valid, good-left}
@@ -92,23 +92,23 @@ module _ (u : Setup) (w now : ℕ) (f : Fdt) (set : SetFor u w (f .settings)) (h
   abbrev asked : DefState.Next
   asked = DefState.next-fdt u now (draft-given draft) (state-of (f .announcer))
 
-  ruled : plan-of (fdt-rule (f .settings .«from_start») (f .settings .interval)) ≡ DefState.fdt-plan u
-  ruled = rule-said u (f .settings .«from_start») (f .settings .interval) (set .carousel)
+  planned : plan-of (fdt-plan-of (f .settings .«from_start») (f .settings .interval)) ≡ DefState.fdt-plan u
+  planned = plan-said u (f .settings .«from_start») (f .settings .interval) (set .carousel)
 
   asked-taken : next-fdt-of now draft f .taken ≡ asked .taken
-  asked-taken = next-fdt-taken now draft f ∙ Laws.next-taken (f .announcer) (h .valid .fdts) u (fdt-rule (f .settings .«from_start») (f .settings .interval)) (f .settings .validity) now draft (set .validity) ruled
+  asked-taken = next-fdt-taken now draft f ∙ Laws.next-taken (f .announcer) (h .valid .fdts) u (fdt-plan-of (f .settings .«from_start») (f .settings .interval)) (f .settings .validity) now draft (set .validity) planned
 
   asked-state : state-of (next-fdt-of now draft f .fdt .announcer) ≡ asked .state
-  asked-state = ap state-of (next-fdt-side now draft f) ∙ Laws.next-state (f .announcer) (h .valid .fdts) u (fdt-rule (f .settings .«from_start») (f .settings .interval)) (f .settings .validity) now draft (set .validity) ruled
+  asked-state = ap state-of (next-fdt-side now draft f) ∙ Laws.next-state (f .announcer) (h .valid .fdts) u (fdt-plan-of (f .settings .«from_start») (f .settings .interval)) (f .settings .validity) now draft (set .validity) planned
 
   asked-starts : (if next-fdt-of now draft f .starts then some (instance-of (next-fdt-of now draft f .fdt .announcer .current)) else none) ≡ asked .starts
   asked-starts = (λ i. if next-fdt-starts now draft f i then some (instance-of (next-fdt-side now draft f i .current)) else none)
-      ∙ Laws.next-starts (f .announcer) (h .valid .fdts) u (fdt-rule (f .settings .«from_start») (f .settings .interval)) (f .settings .validity) now draft (set .validity) ruled
+      ∙ Laws.next-starts (f .announcer) (h .valid .fdts) u (fdt-plan-of (f .settings .«from_start») (f .settings .interval)) (f .settings .validity) now draft (set .validity) planned
 
 -- ---- a round
 
 -- a round of the code, in a run from list g, is the definition's: nothing is sent, or a symbol is; or the transfer is over
-data FdtRounds (w : ℕ) (g : Fdt) : Def.FdtRound → FdtRan → Type 0 where
+data FdtRounds (w : ℕ) (g : Fdt) : Def.FdtRound → FdtTurn → Type 0 where
   waits : {m : Def.FdtTurn} {t : Bool} {f : Fdt} {y : FdtSession} → FdtTurns w g m (record { taken = t; answer = Idle; fdt = f; session = y })
       → FdtRounds w g (Def.FdtRound.over m) (record { taken = t; answer = Idle; fdt = f; session = y })
   sent : {m : Def.FdtTurn} {t : Bool} {s : Symbol} {f : Fdt} {y : FdtSession} → FdtTurns w g m (record { taken = t; answer = Sent s; fdt = f; session = y })
@@ -173,7 +173,7 @@ module _ (u : Setup) (w now : ℕ) (g : Fdt) (set : SetFor u w (g .settings)) wh
 
   module _ (draft : Draft) (good : GoodDraft (g .settings .sizes) draft) (narrow : w ≤ largest-window) (taken : Bool) (f : Fdt) (x : FdtSession) (re : Reached g taken f) (st : FdtStands f w x) where
     -- the code's next FDT, and the session then
-    abbrev n : NextOf
+    abbrev n : NextFdt
     n = next-fdt-of now (left-of draft taken) f
 
     abbrev y : FdtSession
@@ -229,7 +229,7 @@ module _ (u : Setup) (w now : ℕ) (g : Fdt) (set : SetFor u w (g .settings)) wh
 
 module _ (u : Setup) (w now : ℕ) (draft : Draft) (f : Fdt) (x : FdtSession) (set : SetFor u w (f .settings)) (tries : FdtTries f w draft x) (st : FdtStands f w x) where
   -- a round that is the last
-  last : {m : Def.FdtRound} {a : FdtRan} → FdtRounds w f m a → FdtTurns w f (Def.last-fdt-round m) a
+  last : {m : Def.FdtRound} {a : FdtTurn} → FdtRounds w f m a → FdtTurns w f (Def.last-fdt-round m) a
   last (waits k) = k
   last (sent k) = k
   last (ended t g k) = record { view = refl; holds = k .holds; stands = fdt-idle-stands g w; slots = k .slots; same = k .same }
@@ -239,7 +239,7 @@ module _ (u : Setup) (w now : ℕ) (draft : Draft) (f : Fdt) (x : FdtSession) (s
   run-on m = elim m [ Def.FdtRound.over t ↦ t | Def.FdtRound.again taken d ↦ Def.last-fdt-round (Def.fdt-round u now (draft-given draft) taken d) ]
 
   -- after the first round; at the end of a transfer, another
-  second-means : {m : Def.FdtRound} {a : FdtRan} → FdtRounds w f m a → FdtTurns w f (run-on m) (fdt-again-by w now draft a (a .answer))
+  second-means : {m : Def.FdtRound} {a : FdtTurn} → FdtRounds w f m a → FdtTurns w f (run-on m) (fdt-again-by w now draft a (a .answer))
   second-means (waits k) = k
   second-means (sent k) = k
   second-means (ended t g k) = last (attempted-round u w now f set draft (tries .looked) (tries .narrow) t g fdt-idle-of k (fdt-idle-stands g w))

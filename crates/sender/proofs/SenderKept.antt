@@ -24,7 +24,7 @@ use Rattle.lifecycle.specs.declared.fdt.Transfers.{Transfers}
 use Rattle.definition.specs.Desk as Def
 use Rattle.sender.specs.SessionCalls.{Holds, idle-of, ran-of}
 use Rattle.sender.specs.FdtSessionCalls.{FdtHolds, fdt-ran-of}
-use Rattle.sender.specs.SenderCalls.{Valid, Kept, working, with-list, has-priority, request-of, reserving-of, releasing-of, removing-of, prompting-of, completing-of, publishing-of, adding-of, answer-of, running-of, draft-answer, fdt-running-by, fdt-running-of, RunsFdt, RunsFile, Reserves, Releases, Removes, Prompts, Lists, Totals, Completes, Publishes, Adds}
+use Rattle.sender.specs.SenderCalls.{ValidSender, Kept, working, with-list, has-priority, request-of, reserving-of, releasing-of, removing-of, prompting-of, completing-of, publishing-of, adding-of, answer-of, running-of, draft-answer, fdt-running-by, fdt-running-of, RunsFdt, RunsFile, Reserves, Releases, Removes, Prompts, Lists, CountsTransfers, Completes, Publishes, Adds}
 use Rattle.sender.specs.declared.sender.Sender.{Sender}
 use Rattle.sender.specs.declared.sender.Object.{Object}
 use Rattle.sender.specs.declared.sender.Adding.{Adding}
@@ -32,8 +32,8 @@ use Rattle.lifecycle.specs.declared.fdt.Admission.the-variants as AdmissionV
 use Rattle.sender.specs.declared.sender.RunAnswer.the-variants as RunV
 use Rattle.sender.specs.declared.sender.Running.{Running}
 use Rattle.sender.specs.declared.sendersession.SenderSession.{SenderSession}
-use Rattle.sender.specs.declared.sendersession.Ran.{Ran}
-use Rattle.sender.specs.declared.fdtsession.FdtRan.{FdtRan}
+use Rattle.sender.specs.declared.sendersession.Turn.{Turn}
+use Rattle.sender.specs.declared.fdtsession.FdtTurn.{FdtTurn}
 use Rattle.sender.proofs.SessionLaws.{holds-added, holds-removed, holds-triggered, holds-published, holds-reserved, holds-released, holds-completed}
 use Rattle.lifecycle.proofs.FdtKeeps.{ObjectsOnly, reserved-keeps, released-keeps, added-keeps, removed-keeps, triggered-keeps}
 use Rattle.sender.proofs.FdtSessionLaws.{fdt-holds-over, fdt-holds-published}
@@ -45,7 +45,7 @@ use Rattle.sender.proofs.DeskAdds.{add-kept}
 use Rattle.sender.proofs.DeskRuns.{run-kept}
 use Rattle.sender.proofs.DeskFdtRuns.{run-fdt-kept}
 
-module _ (s : Sender) (v : Valid s) where
+module _ (s : Sender) (v : ValidSender s) where
   -- a list that has the same FDT side
   beside : (r : Fdt) → Holds r → ObjectsOnly (s .fdt) r → FdtHolds r
   beside r h e = fdt-holds-over (s .fdt) r (v .fdt-holds) (h .valid) (e .settings) (e .announcer)
@@ -77,7 +77,7 @@ module _ (s : Sender) (v : Valid s) where
   pub lists : (t : ℕ) → Lists t s (is-added-of t (s .fdt))
   lists t = record { exact = refl; kept = listed-kept s v t }
 
-  pub totals : (t : ℕ) (r : Transfers) → transfers-said r ≡ transfers-of t (s .fdt) → Totals t s r
+  pub totals : (t : ℕ) (r : Transfers) → transfers-said r ≡ transfers-of t (s .fdt) → CountsTransfers t s r
   totals t r e = record { exact = e; kept = subst (λ n. Kept s (Def.Call.ask (Def.Question.transfers t)) (Def.Answer.transferred n) s) (sym e) (transfers-kept s v t) }
 
   pub completes : Completes s (completing-of s)
@@ -126,7 +126,7 @@ unfolding running-of
 run-refused i now s h = rw (le-ltb i (s .count) h)
 
 -- what the sender makes of a session's run
-abbrev pub ran-sender : ℕ → Sender → Ran → Running
+abbrev pub ran-sender : ℕ → Sender → Turn → Running
 ran-sender i s r = record {
   taken = false;
   answer = answer-of false (slot-at (r .fdt .slots) (r .session .slot) .file .toi) 0 (r .answer);
@@ -137,11 +137,11 @@ pub run-goes : (i now : ℕ) (s : Sender) → i < s .count → running-of i now 
 unfolding running-of
 run-goes i now s h = rw (lt-ltb i (s .count) h)
 
-pub runs : (s : Sender) → Valid s → (i now : ℕ) → RunsFile i now s (running-of i now s)
+pub runs : (s : Sender) → ValidSender s → (i now : ℕ) → RunsFile i now s (running-of i now s)
 runs s v i now = record { exact = refl; kept = run-kept s i now v }
 
 -- the same for an element that was read with another past the end
-pub read-session : (s : Sender) → Valid s → (i : ℕ) (z : SenderSession) → i < s .count → getD (s .sessions) i z ≡ getD (s .sessions) i (idle-of 0)
+pub read-session : (s : Sender) → ValidSender s → (i : ℕ) (z : SenderSession) → i < s .count → getD (s .sessions) i z ≡ getD (s .sessions) i (idle-of 0)
 read-session s v i z h = let a = v .few in let b = v .long in get-same (s .sessions) i z (idle-of 0) (omega arith)
 
 -- ---- a run of the FDT session
@@ -154,7 +154,7 @@ fdt-refused now draft s DraftTestV.Good e g = absurd (true≢false (sym g))
 fdt-refused now draft s (DraftTestV.Refused why) e g = ap (fdt-running-by now (real-draft draft) s) (sym e)
 
 -- what the sender makes of a run
-abbrev pub fdt-ran-sender : Sender → FdtRan → Running
+abbrev pub fdt-ran-sender : Sender → FdtTurn → Running
 fdt-ran-sender s r = record {
   taken = r .taken;
   answer = answer-of true 0 (r .session .id) (r .answer);
@@ -169,5 +169,5 @@ pub fdt-goes : (now : ℕ) (draft : Draft) (s : Sender) → draft-test-of (real-
 unfolding fdt-running-of
 fdt-goes now draft s e = ap (fdt-running-by now (real-draft draft) s) e
 
-pub fdt-runs : (s : Sender) → Valid s → (now : ℕ) (draft : Draft) → RunsFdt now draft s (fdt-running-of now draft s)
+pub fdt-runs : (s : Sender) → ValidSender s → (now : ℕ) (draft : Draft) → RunsFdt now draft s (fdt-running-of now draft s)
 fdt-runs s v now draft = record { exact = refl; kept = run-fdt-kept s now draft v }

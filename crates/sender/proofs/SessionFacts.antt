@@ -8,7 +8,7 @@ use Rattle.sizes.specs.Limits.{largest-window}
 use Rattle.sizes.specs.Allocator as Alloc
 use Rattle.lifecycle.specs.Slots.{slot-at}
 use Rattle.lifecycle.specs.FdtCalls.{file-at, sends, taken-of, done-of}
-use Rattle.lifecycle.specs.FdtCalls.{Valid as ListValid}
+use Rattle.lifecycle.specs.FdtCalls.{ValidFdt}
 use Rattle.lifecycle.specs.declared.fdt.Fdt.{Fdt}
 use Rattle.lifecycle.proofs.FdtKeeps.{ObjectsOnly, SameNumbers, taken-keeps, done-keeps}
 use Rattle.lifecycle.proofs.TakesKeep.{taken-numbers, done-numbers}
@@ -18,9 +18,9 @@ use Rattle.sender.specs.EncoderCalls.{symbol-said}
 use Rattle.sender.specs.SessionCalls.{session-of, Holds, Runs, idle-of}
 use Rattle.sender.specs.SessionMeans.{Stands, queue-of}
 use Rattle.sender.specs.declared.sendersession.SenderSession.{SenderSession}
-use Rattle.sender.specs.declared.sendersession.Served.{Served}
-use Rattle.sender.specs.declared.sendersession.Served.the-variants.{Idle, Sent, Over}
-use Rattle.sender.specs.declared.sendersession.Ran.{Ran}
+use Rattle.sender.specs.declared.sendersession.Outcome.{Outcome}
+use Rattle.sender.specs.declared.sendersession.Outcome.the-variants.{Idle, Sent, Over}
+use Rattle.sender.specs.declared.sendersession.Turn.{Turn}
 
 -- ---- between two calls
 
@@ -39,13 +39,13 @@ has-slot x j = x .busy && eqb (x .slot) j
 -- ---- its run
 
 -- the packet of an answer, for the object with number t
-abbrev pub packet-said : ℕ → Served → Option Packet
+abbrev pub packet-said : ℕ → Outcome → Option Packet
 packet-said t Idle = none
 packet-said t (Sent s) = some record { id = none; toi = t; symbol = symbol-said s }
 packet-said t Over = none
 
 -- what a run comes to
-abbrev pub turn-of : Ran → Def.Turn
+abbrev pub turn-of : Turn → Def.Turn
 turn-of r = record {
   packet = packet-said (file-at (r .fdt .slots) (r .session .slot) .toi) (r .answer);
   queue = queue-of (r .fdt);
@@ -61,7 +61,7 @@ pub record SameSide (f r : Fdt) : Type 0 where
   pub loose : Alloc.loose (r .tois) ≡ Alloc.loose (f .tois)
 
 -- a run of session x is the definition's turn m; what it leaves in hand, what is in transfer after it, and what stays
-pub record FileRuns (w : ℕ) (f : Fdt) (x : SenderSession) (m : Def.Turn) (r : Ran) : Type 0 where
+pub record FileRuns (w : ℕ) (f : Fdt) (x : SenderSession) (m : Def.Turn) (r : Turn) : Type 0 where
   pub view : m ≡ turn-of r
   pub holds : Holds (r .fdt)
   pub stands : Stands (r .fdt) w (r .session)
@@ -95,5 +95,5 @@ same-by o n = record { settings = o .settings; complete = o .complete; announcer
 pub taken-side : (f : Fdt) (p now : ℕ) → SameSide f (taken-of p now f .fdt)
 taken-side f p now = same-by (taken-keeps f p now) (taken-numbers f p now)
 
-pub done-side : (f : Fdt) → ListValid f → (now k : ℕ) → SameSide f (done-of now k f)
+pub done-side : (f : Fdt) → ValidFdt f → (now k : ℕ) → SameSide f (done-of now k f)
 done-side f v now k = same-by (done-keeps f now k) (done-numbers f v now k)

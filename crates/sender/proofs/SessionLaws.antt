@@ -13,7 +13,7 @@ use Rattle.lifecycle.specs.FileDesc.{with-life}
 use Rattle.lifecycle.specs.Slots.{no-slot, slot-at}
 use Rattle.lifecycle.specs.Announce.{waits-of}
 use Rattle.lifecycle.specs.FdtCalls.{sends, completed-of, reserved-of, released-of, added-of, removed-of, triggered-of, taken-of, done-of, publish-of, next-fdt-of, fdt-done-of}
-use Rattle.lifecycle.specs.FdtCalls.{Valid as ListValid}
+use Rattle.lifecycle.specs.FdtCalls.{ValidFdt}
 use Rattle.lifecycle.proofs.FdtMeans.{is-taken}
 use Rattle.lifecycle.specs.declared.parts.Part.{Part}
 use Rattle.lifecycle.specs.declared.filedesc.Time.{Time}
@@ -32,16 +32,16 @@ use Rattle.lifecycle.proofs.HeldKeep.{part-lies-in, reserved-held, released-hel
 use Rattle.sender.specs.SessionCalls.{Good, Holds, Ready, begun-of, forced-slot, served-of, ran-by, attended-of, taken-on-of, again-by, ran-of}
 use Rattle.sender.specs.declared.blockencoder.Symbol.{Symbol}
 use Rattle.sender.specs.declared.sendersession.SenderSession.{SenderSession}
-use Rattle.sender.specs.declared.sendersession.Served.{Served}
-use Rattle.sender.specs.declared.sendersession.Served.the-variants.{Idle, Sent, Over}
-use Rattle.sender.specs.declared.sendersession.Ran.{Ran}
-use Rattle.sender.proofs.sendersession.Served.{the-type}
+use Rattle.sender.specs.declared.sendersession.Outcome.{Outcome}
+use Rattle.sender.specs.declared.sendersession.Outcome.the-variants.{Idle, Sent, Over}
+use Rattle.sender.specs.declared.sendersession.Turn.{Turn}
+use Rattle.sender.proofs.sendersession.Outcome.{the-type}
 use Rattle.sender.proofs.SessionTakes.{begun-valid}
 
 -- ---- what a session comes to
 
 -- what holds where nothing is sent, and where a symbol is, holds where the transfer is not over
-pub not-over : (P : Served → Type 0) (a : Served) → (tagOf the-type a ≡ 0) ⊎ (tagOf the-type a ≡ 1) → P Idle → ((s : Symbol) → P (Sent s)) → P a
+pub not-over : (P : Outcome → Type 0) (a : Outcome) → (tagOf the-type a ≡ 0) ⊎ (tagOf the-type a ≡ 1) → P Idle → ((s : Symbol) → P (Sent s)) → P a
 not-over P Idle h i s = i
 not-over P (Sent y) h i s = s y
 not-over P Over (inl e) i s = absurd (omega arith)
@@ -93,7 +93,7 @@ module _ (f : Fdt) (h : Holds f) where
 
 -- ---- an object is taken in hand
 
-module _ (f : Fdt) (v : ListValid f) (p now k : ℕ) (e : taken-of p now f .answer ≡ PlaceV.At k) where
+module _ (f : Fdt) (v : ValidFdt f) (p now k : ℕ) (e : taken-of p now f .answer ≡ PlaceV.At k) where
   -- it is in transfer
   pub taken-sends : sends (slot-at (taken-of p now f .fdt .slots) k) ≡ true
   taken-sends =
@@ -126,7 +126,7 @@ pub holds-attended : (now : ℕ) (f : Fdt) (x : SenderSession) → Holds f → H
 unfolding attended-of
 holds-attended now f x h = let r = served-of (forced-slot (slot-at (f .slots) (x .slot))) (waits-of (f .announcer)) now x in go (r .session) (r .answer)
   where
-    go : (y : SenderSession) (a : Served) → Holds (ran-by now f x y a .fdt)
+    go : (y : SenderSession) (a : Outcome) → Holds (ran-by now f x y a .fdt)
     go y Over = holds-done f h now (x .slot)
     go y Idle = h
     go y (Sent s) = h
@@ -134,11 +134,11 @@ holds-attended now f x h = let r = served-of (forced-slot (slot-at (f .slots) (x
 -- ---- a run, by cases
 
 module _ (w now : ℕ) (f : Fdt) (x : SenderSession) where
-  pub ran-busy : x .busy ≡ true → (a : Ran) → a ≡ attended-of now f x → ran-of w now f x ≡ again-by w now a (a .answer)
+  pub ran-busy : x .busy ≡ true → (a : Turn) → a ≡ attended-of now f x → ran-of w now f x ≡ again-by w now a (a .answer)
   unfolding ran-of
   ran-busy e a h =
       ap (λ b. if b then again-by w now (attended-of now f x) (attended-of now f x .answer) else taken-on-of w now f x) e
-      ∙ ap (λ (r : Ran). again-by w now r (r .answer)) (sym h)
+      ∙ ap (λ (r : Turn). again-by w now r (r .answer)) (sym h)
 
   pub ran-idle : x .busy ≡ false → ran-of w now f x ≡ taken-on-of w now f x
   unfolding ran-of

@@ -33,10 +33,10 @@ use Rattle.sender.specs.declared.blockencoder.Emitted.{Emitted}
 use Rattle.sender.specs.declared.blockencoder.Emitted.the-variants as EmittedV
 use Rattle.sender.specs.declared.blockencoder.Read.{Read}
 use Rattle.sender.specs.declared.sendersession.SenderSession.{SenderSession}
-use Rattle.sender.specs.declared.sendersession.Served.{Served}
-use Rattle.sender.specs.declared.sendersession.Served.the-variants.{Idle, Sent, Over}
-use Rattle.sender.specs.declared.sendersession.Service.{Service}
-use Rattle.sender.specs.declared.sendersession.Ran.{Ran}
+use Rattle.sender.specs.declared.sendersession.Outcome.{Outcome}
+use Rattle.sender.specs.declared.sendersession.Outcome.the-variants.{Idle, Sent, Over}
+use Rattle.sender.specs.declared.sendersession.Serving.{Serving}
+use Rattle.sender.specs.declared.sendersession.Turn.{Turn}
 use Rattle.sender.proofs.EncoderReads.{read-means}
 use Rattle.sender.proofs.SessionFacts.{has-slot, turn-of, FileRuns, same-side, same-on, done-side}
 use Rattle.sender.proofs.SessionLaws.{holds-done}
@@ -102,7 +102,7 @@ done-own o b e s t p q = rw (p, q)
 
 module _ (now w : ℕ) (f : Fdt) (g : Holds f) (x : SenderSession) (h : InHand f w x) (b : x .busy ≡ true) where
   -- the same object stays in hand
-  keeps : (m : Def.Turn) (a : Served) (y : SenderSession) → y .busy ≡ true → y .priority ≡ x .priority → ((j : ℕ) → has-slot y j ≡ has-slot x j) → InHand f w y
+  keeps : (m : Def.Turn) (a : Outcome) (y : SenderSession) → y .busy ≡ true → y .priority ≡ x .priority → ((j : ℕ) → has-slot y j ≡ has-slot x j) → InHand f w y
       → m ≡ turn-of (record { answer = a; fdt = f; session = y }) → FileRuns w f x m (record { answer = a; fdt = f; session = y })
   keeps m a y c p o i v = record {
     view = v;
@@ -120,7 +120,7 @@ module _ (now w : ℕ) (f : Fdt) (g : Holds f) (x : SenderSession) (h : InHand f
   apart j n = sym (ap (λ c. c && eqb (x .slot) j) b) ∙ n
 
   -- the end of the transfer, and on from there
-  after-end : (m : Def.Turn) (r : Ran) → FileRuns w (done-of now (x .slot) f) (idle-of (x .priority)) m r → FileRuns w f x m r
+  after-end : (m : Def.Turn) (r : Turn) → FileRuns w (done-of now (x .slot) f) (idle-of (x .priority)) m r → FileRuns w f x m r
   after-end m r k = record {
     view = k .view;
     holds = k .holds;
@@ -139,10 +139,10 @@ module _ (now w : ℕ) (f : Fdt) (g : Holds f) (x : SenderSession) (h : InHand f
 -- ---- the round
 
 -- a round of the code is the definition's: nothing is sent, or a symbol is; or the transfer is over, and what comes after it comes after the round
-pub data Rounds (w : ℕ) (f : Fdt) (x : SenderSession) : Def.Round → Ran → Type 0 where
+pub data Rounds (w : ℕ) (f : Fdt) (x : SenderSession) : Def.Round → Turn → Type 0 where
   waits : {t : Def.Turn} {y : SenderSession} → FileRuns w f x t (record { answer = Idle; fdt = f; session = y }) → Rounds w f x (Def.Round.over t) (record { answer = Idle; fdt = f; session = y })
   sent : {t : Def.Turn} {s : Symbol} {y : SenderSession} → FileRuns w f x t (record { answer = Sent s; fdt = f; session = y }) → Rounds w f x (Def.Round.over t) (record { answer = Sent s; fdt = f; session = y })
-  ended : (g : Fdt) → Holds g → g .announcer ≡ f .announcer → ((m : Def.Turn) (r : Ran) → FileRuns w g (idle-of (x .priority)) m r → FileRuns w f x m r)
+  ended : (g : Fdt) → Holds g → g .announcer ≡ f .announcer → ((m : Def.Turn) (r : Turn) → FileRuns w g (idle-of (x .priority)) m r → FileRuns w f x m r)
       → Rounds w f x (Def.Round.again (queue-of g)) (record { answer = Over; fdt = g; session = idle-of (x .priority) })
 
 module _ (u : Setup) (now w : ℕ) (window : u .window ≡ w) (f : Fdt) (g : Holds f) (x : SenderSession) (h : InHand f w x) (b : x .busy ≡ true) where
@@ -185,9 +185,9 @@ module _ (u : Setup) (now w : ℕ) (window : u .window ≡ w) (f : Fdt) (g : Hol
           else elim (z .0) [ none ↦ Def.Round.again (Def.put-back now (in-hand f x) (queue-of f)) | some y ↦ Def.Round.over (Def.sent (queue-of f) (in-hand f x) (z .1) y) ]
 
       -- the code's
-      ran-after : Bool → Bool → Emitted → Ran
+      ran-after : Bool → Bool → Emitted → Turn
       ran-after queued early a =
-          let s : Service = if queued || early then record { answer = Idle; session = x } else service-by x (r .encoder) a in
+          let s : Serving = if queued || early then record { answer = Idle; session = x } else service-by x (r .encoder) a in
           ran-by now f x (s .session) (s .answer)
 
       resting : Rounds w f x (Def.Round.over still) (record { answer = Idle; fdt = f; session = x })

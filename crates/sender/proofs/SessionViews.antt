@@ -31,9 +31,9 @@ use Rattle.sender.specs.EncoderCalls.{new-of}
 use Rattle.sender.specs.SessionCalls.{object-of, hand-of, session-of, Holds, Runs, idle-of, begun-of, attended-of, taken-by, taken-on-of, again-by, ran-of}
 use Rattle.sender.specs.SessionMeans.{InHand, Stands, queue-of}
 use Rattle.sender.specs.declared.sendersession.SenderSession.{SenderSession}
-use Rattle.sender.specs.declared.sendersession.Served.{Served}
-use Rattle.sender.specs.declared.sendersession.Served.the-variants.{Idle, Over}
-use Rattle.sender.specs.declared.sendersession.Ran.{Ran}
+use Rattle.sender.specs.declared.sendersession.Outcome.{Outcome}
+use Rattle.sender.specs.declared.sendersession.Outcome.the-variants.{Idle, Over}
+use Rattle.sender.specs.declared.sendersession.Turn.{Turn}
 use Rattle.sender.proofs.SessionFacts.{has-slot, packet-said, SameSide, FileRuns, same-side, same-on, taken-side}
 use Rattle.sender.proofs.SessionLaws.{holds-taken}
 use Rattle.sender.proofs.SessionRounds.{in-hand, has-sent, Rounds, waits, sent, ended, attended-round}
@@ -42,7 +42,7 @@ use Rattle.sender.proofs.SessionTakes.{find-startable, drop-startable, 
 -- ---- nothing in hand
 
 -- nothing happens
-nothing-means : (w : ℕ) (f : Fdt) → Holds f → (x : SenderSession) → x ≡ idle-of (x .priority) → (a : Served) → ((t : ℕ) → packet-said t a ≡ none)
+nothing-means : (w : ℕ) (f : Fdt) → Holds f → (x : SenderSession) → x ≡ idle-of (x .priority) → (a : Outcome) → ((t : ℕ) → packet-said t a ≡ none)
     → FileRuns w f x (Def.idle (queue-of f) none) (record { answer = a; fdt = f; session = x })
 nothing-means w f g x e a p = record {
   view = λ i. record { packet = sym (p (file-at (f .slots) (x .slot) .toi)) i; queue = queue-of f; hand = if sym c i then some (in-hand f x) else none };
@@ -62,7 +62,7 @@ nothing-means w f g x e a p = record {
     own-none b s e = rw e
 
 -- a round that is the last
-last : {w : ℕ} {f : Fdt} {x : SenderSession} {m : Def.Round} {a : Ran} → Rounds w f x m a → FileRuns w f x (Def.last-round m) a
+last : {w : ℕ} {f : Fdt} {x : SenderSession} {m : Def.Round} {a : Turn} → Rounds w f x m a → FileRuns w f x (Def.last-round m) a
 last (waits k) = k
 last (sent k) = k
 last {w} {x = x} (ended g h e on) = on _ _ (nothing-means w g h (idle-of (x .priority)) refl Over (λ t. refl))
@@ -128,7 +128,7 @@ module _ (u : Setup) (w now : ℕ) (window : u .window ≡ w) (narrow : w ≤ la
     k-new j (fail e) h = sym (k-sent j ∙ ap (λ b. b || sends (slot-at (f .slots) j)) e) ∙ h e
 
     -- the take, and on from there
-    starts : (m : Def.Turn) (r : Ran) → FileRuns w t y m r → FileRuns w f x m r
+    starts : (m : Def.Turn) (r : Turn) → FileRuns w t y m r → FileRuns w f x m r
     unfolding begun-of
     starts m r h = record {
       view = h .view;
@@ -172,7 +172,7 @@ module _ (u : Setup) (w now : ℕ) (window : u .window ≡ w) (f : Fdt) (x : Sen
   run-on m = elim m [ Def.Round.over t ↦ t | Def.Round.again q ↦ Def.last-round (Def.round u (x .priority) now (waits-of (f .announcer)) q none) ]
 
   -- after the first round; at the end of a transfer, another
-  second-means : {m : Def.Round} {a : Ran} → Rounds w f x m a → FileRuns w f x (run-on m) (again-by w now a (a .answer))
+  second-means : {m : Def.Round} {a : Turn} → Rounds w f x m a → FileRuns w f x (run-on m) (again-by w now a (a .answer))
   second-means (waits k) = k
   second-means (sent k) = k
   second-means (ended g h e on) = on _ _ (

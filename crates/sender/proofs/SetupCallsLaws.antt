@@ -21,7 +21,7 @@ use Rattle.sizes.proofs.Tests.{Tested, pass, fail, tested}
 use Rattle.lifecycle.specs.Lifecycle as Life
 use Rattle.lifecycle.specs.Setup.{sound, widths}
 use Rattle.lifecycle.specs.FdtCalls.{sends, used, opening-fdt}
-use Rattle.lifecycle.specs.FdtCalls.{Valid as ListValid}
+use Rattle.lifecycle.specs.FdtCalls.{ValidFdt}
 use Rattle.lifecycle.specs.declared.slots.Slot.{Slot}
 use Rattle.lifecycle.specs.declared.fdt.Fdt.{Fdt}
 use Rattle.lifecycle.specs.declared.fdt.Settings.{Settings}
@@ -33,8 +33,8 @@ use Rattle.definition.specs.Desk as Def
 use Rattle.sender.proofs.SessionFacts.{idle-stands}
 use Rattle.sender.specs.SessionCalls.{idle-of, object-of, session-of}
 use Rattle.sender.specs.SessionMeans.{Stands, fdt-carousel-of}
-use Rattle.sender.specs.SenderCalls.{desk-of, Agrees, Valid, slot-in}
-use Rattle.sender.specs.SetupCalls.{carousel-said, priorities-said, setup-said, width-said, is-interval, interval-in, settings-of, priority-at, opening-of, plain, refused-of, opened-of, Opens}
+use Rattle.sender.specs.SenderCalls.{desk-of, Agrees, ValidSender, slot-in}
+use Rattle.sender.specs.SetupCalls.{carousel-said, priorities-said, setup-said, width-said, is-interval, interval-in, settings-of, priority-at, opening-sender, plain, refused-of, opened-of, Opens}
 use Rattle.sender.specs.declared.sendersession.SenderSession.{SenderSession}
 use Rattle.sender.specs.declared.setup.Setup.{Setup}
 use Rattle.sender.specs.declared.setup.FdtCarousel.{FdtCarousel}
@@ -188,25 +188,25 @@ named t (x ∷ y ∷ z ∷ w ∷ v ∷ l) n q h = absurd (omega arith)
 
 -- what every call is given
 pub record OpeningKept (z : Setup) : Type 0 where
-  pub means : desk-of (opening-of z) ≡ Def.opening (setup-said z)
-  pub agrees : Agrees (setup-said z) (opening-of z)
-  pub valid : Valid (opening-of z)
+  pub means : desk-of (opening-sender z) ≡ Def.opening (setup-said z)
+  pub agrees : Agrees (setup-said z) (opening-sender z)
+  pub valid : ValidSender (opening-sender z)
 
 module _ (z : Setup) (long : length (z .priorities) ≡ most-sessions) (ok : sound (setup-said z) ≡ true) where
   few : z .count ≤ most-sessions
   few = let q = told (setup-said z) ok .sessions .1 in let l = counted z long in omega arith
 
   -- the list that it opens
-  opened-list : OpeningList (settings-of z) (Alloc.opening (z .width) (z .«first_toi»)) (z .«first_fdt_id») (opening-of z .fdt)
-  unfolding opening-of
-  opened-list = opening-list (settings-of z) (Alloc.opening (z .width) (z .«first_toi»)) (z .«first_fdt_id»)
+  opened-list : OpeningList (settings-of z) (Alloc.new-allocator (z .width) (z .«first_toi»)) (z .«first_fdt_id») (opening-sender z .fdt)
+  unfolding opening-sender
+  opened-list = opening-list (settings-of z) (Alloc.new-allocator (z .width) (z .«first_toi»)) (z .«first_fdt_id»)
 
-  desk-opened : desk-of (opening-of z) ≡ Def.opening (setup-said z)
-  unfolding desk-of opening-of Def.opening Alloc.opening
+  desk-opened : desk-of (opening-sender z) ≡ Def.opening (setup-said z)
+  unfolding desk-of opening-sender Def.opening Alloc.new-allocator
   desk-opened =
       let o = opened-list in
       let q : (if leb (z .count) most-sessions then take (z .count) (z .priorities) else replicate (z .count) 0) ≡ take (z .count) (z .priorities) = rw (le-leb (z .count) most-sessions few) in
-      let e = named (opening-of z .fdt .slots) (z .priorities) (z .count) long few ∙ sym (ap (map (λ p. record { priority = p; hand = none })) q) in
+      let e = named (opening-sender z .fdt .slots) (z .priorities) (z .count) long few ∙ sym (ap (map (λ p. record { priority = p; hand = none })) q) in
       λ i. record {
         complete = o .complete i;
         next = o .tois i .next;
@@ -216,8 +216,8 @@ module _ (z : Setup) (long : length (z .priorities) ≡ most-sessions) (ok : sou
         fdt = record { state = o .side i; hand = none };
       }
 
-  agrees-opened : Agrees (setup-said z) (opening-of z)
-  unfolding opening-of Alloc.opening
+  agrees-opened : Agrees (setup-said z) (opening-sender z)
+  unfolding opening-sender Alloc.new-allocator
   agrees-opened =
       let x = sym (opened-list .settings) in
       record {
@@ -234,15 +234,15 @@ module _ (z : Setup) (long : length (z .priorities) ≡ most-sessions) (ok : sou
       by-carousel (CarouselV.Delay t) = refl
       by-carousel (CarouselV.Interval t) = refl
 
-  list-valid : ListValid (opening-of z .fdt)
-  unfolding opening-of
+  list-valid : ValidFdt (opening-sender z .fdt)
+  unfolding opening-sender
   list-valid =
       let w = a-wide (z .width) (passed (setup-said z) ok .width) in
-      subst (λ n. ListValid (opening-fdt (settings-of z) (Alloc.opening n (z .«first_toi»)) (z .«first_fdt_id»))) (sym (w .1))
+      subst (λ n. ValidFdt (opening-fdt (settings-of z) (Alloc.new-allocator n (z .«first_toi»)) (z .«first_fdt_id»))) (sym (w .1))
       (valid-opened (settings-of z) (w .0) (z .«first_toi») (z .«first_fdt_id») (told (setup-said z) ok .first-id))
 
-  valid-opened-sender : Valid (opening-of z)
-  unfolding opening-of
+  valid-opened-sender : ValidSender (opening-sender z)
+  unfolding opening-sender
   valid-opened-sender =
       let t = told (setup-said z) ok in
       let o = opened-list in
@@ -254,7 +254,7 @@ module _ (z : Setup) (long : length (z .priorities) ≡ most-sessions) (ok : sou
         narrow = t .window .1;
         few = few;
         long = refl;
-        sessions = λ i h. four-stand (opening-of z .fdt) (z .window) (priority-at (z .priorities) (z .count)) i;
+        sessions = λ i h. four-stand (opening-sender z .fdt) (z .window) (priority-at (z .priorities) (z .count)) i;
         spare = four-spare (z .priorities) (z .count);
         in-hand = λ k. ap (times k) (no-hands (z .count) (map (priority-at (z .priorities) (z .count)) (0 ∷ 1 ∷ 2 ∷ 3 ∷ []))) ∙ sym (ap (λ v. one-if (sends v)) (o .slots k));
         fdt-busy = λ q. absurd (false≢true q);
@@ -280,7 +280,7 @@ module _ (z : Setup) where
     valid = opening-kept plain refl plain-sound .valid;
   }
 
-  pub opens : length (z .priorities) ≡ most-sessions → sound (setup-said z) ≡ true → Opens z (record { ok = true; sender = opening-of z })
+  pub opens : length (z .priorities) ≡ most-sessions → sound (setup-said z) ≡ true → Opens z (record { ok = true; sender = opening-sender z })
   unfolding opened-of Def.set-up
   opens long q =
       let k = opening-kept z long q in

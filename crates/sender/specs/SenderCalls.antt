@@ -13,7 +13,7 @@ use Rattle.sizes.specs.Limits.{most-sessions, largest-window, longest-store}
 use Rattle.sizes.specs.Allocator as Alloc
 use Rattle.sizes.specs.declared.partition.Sizes.{Sizes}
 use Rattle.lifecycle.specs.Setup.{Setup as DefSetup}
-use Rattle.lifecycle.specs.FileDesc.{time-of, rule-named, carousel-named, target-named}
+use Rattle.lifecycle.specs.FileDesc.{time-of, plan-named, carousel-named, target-named}
 use Rattle.lifecycle.specs.Slots.{no-slot, slot-at}
 use Rattle.lifecycle.specs.Announce.{draft-given}
 use Rattle.lifecycle.specs.FdtCalls.{sends, publication-said, transfers-said, real-draft, draft-test-of, reserved-of, released-of, added-of, removed-of, triggered-of, is-added-of, transfers-of, completed-of, publish-of}
@@ -39,8 +39,8 @@ use Rattle.sender.specs.FdtSessionCalls.{FdtHolds, fdt-idle-of, fdt-ran-
 use Rattle.sender.specs.SessionMeans.{queue-of, fdt-of, fdt-carousel-of, Stands, FdtInHand}
 use Rattle.sender.specs.declared.sendersession.SenderSession.{SenderSession}
 use Rattle.sender.specs.declared.fdtsession.FdtSession.{FdtSession}
-use Rattle.sender.specs.declared.sendersession.Served.{Served}
-use Rattle.sender.specs.declared.sendersession.Served.the-variants as ServedV
+use Rattle.sender.specs.declared.sendersession.Outcome.{Outcome}
+use Rattle.sender.specs.declared.sendersession.Outcome.the-variants as OutcomeV
 use Rattle.sender.specs.declared.sender.Sender.{Sender}
 use Rattle.sender.specs.declared.sender.Object.{Object}
 use Rattle.sender.specs.declared.sender.Packet.{Packet}
@@ -49,7 +49,7 @@ use Rattle.sender.specs.declared.sender.RunAnswer.the-variants as RunV
 use Rattle.sender.specs.declared.sender.Reserving.{Reserving}
 use Rattle.sender.specs.declared.sender.Releasing.{Releasing}
 use Rattle.sender.specs.declared.sender.Adding.{Adding}
-use Rattle.sender.specs.declared.sender.Telling.{Telling}
+use Rattle.sender.specs.declared.sender.Touching.{Touching}
 use Rattle.sender.specs.declared.sender.Publishing.{Publishing}
 use Rattle.sender.specs.declared.sender.Running.{Running}
 
@@ -85,7 +85,7 @@ pub record Agrees (u : DefSetup) (s : Sender) : Type 0 where
 abbrev pub slot-in : SenderSession → Option ℕ
 slot-in x = if x .busy then some (x .slot) else none
 
-pub record Valid (s : Sender) : Type 0 where
+pub record ValidSender (s : Sender) : Type 0 where
   pub holds : Holds (s .fdt)
   pub fdt-holds : FdtHolds (s .fdt)
   pub object-store : s .fdt .settings .«object_store» ≤ longest-store
@@ -107,7 +107,7 @@ pub record Valid (s : Sender) : Type 0 where
 pub record Kept (s : Sender) (c : Def.Call) (a : Def.Answer) (r : Sender) : Type 0 where
   pub means : (u : DefSetup) → Agrees u s → Def.step u (desk-of s) c ≡ (a, desk-of r)
   pub agrees : (u : DefSetup) → Agrees u s → Agrees u r
-  pub valid : Valid r
+  pub valid : ValidSender r
 
 -- ---- what the answers say, by the table's numbers
 
@@ -172,10 +172,10 @@ reserving-of s = record { answer = reserved-of (s .fdt) .answer; sender = with-l
 unfoldable pub releasing-of : ℕ → Sender → Releasing
 releasing-of t s = record { answer = released-of t (s .fdt) .answer; sender = with-list s (released-of t (s .fdt) .fdt) }
 
-unfoldable pub removing-of : ℕ → Sender → Telling
+unfoldable pub removing-of : ℕ → Sender → Touching
 removing-of t s = record { yes = removed-of t (s .fdt) .yes; sender = with-list s (removed-of t (s .fdt) .fdt) }
 
-unfoldable pub prompting-of : ℕ → Time → Sender → Telling
+unfoldable pub prompting-of : ℕ → Time → Sender → Touching
 prompting-of t start s = record { yes = triggered-of t start (s .fdt) .yes; sender = with-list s (triggered-of t start (s .fdt) .fdt) }
 
 abbrev pub completing-of : Sender → Sender
@@ -190,7 +190,7 @@ has-priority p x = eqb (x .priority) p
 
 -- what the list is asked for an object
 unfoldable pub request-of : Object → Request
-request-of o = record { priority = o .priority; part = o .part; own = o .own; rule = rule-named (o .most) (o .carousel) (o .target) (o .«stop_at_once»); start = o .start }
+request-of o = record { priority = o .priority; part = o .part; own = o .own; plan = plan-named (o .most) (o .carousel) (o .target) (o .«stop_at_once»); start = o .start }
 
 unfoldable pub adding-of : Object → Named → Sender → Adding
 adding-of o named s =
@@ -199,10 +199,10 @@ adding-of o named s =
     else record { answer = AdmissionV.Refused Because.NoPriority; sender = s }
 
 -- the answer of a session's run
-abbrev pub answer-of : Bool → ℕ → ℕ → Served → RunAnswer
-answer-of f toi id ServedV.Idle = RunV.Nothing
-answer-of f toi id ServedV.Over = RunV.Nothing
-answer-of f toi id (ServedV.Sent y) = RunV.Packet (record { «is_fdt» = f; toi = toi; «fdt_id» = id; symbol = y })
+abbrev pub answer-of : Bool → ℕ → ℕ → Outcome → RunAnswer
+answer-of f toi id OutcomeV.Idle = RunV.Nothing
+answer-of f toi id OutcomeV.Over = RunV.Nothing
+answer-of f toi id (OutcomeV.Sent y) = RunV.Packet (record { «is_fdt» = f; toi = toi; «fdt_id» = id; symbol = y })
 
 -- the sender with x for file session k
 abbrev pub with-session : ℕ → SenderSession → Sender → Sender
@@ -254,11 +254,11 @@ pub record Adds (o : Object) (named : Named) (s : Sender) (r : Adding) : Type 0 
   pub exact : r ≡ adding-of o named s
   pub kept : Kept s (Def.Call.add (named-said named) (object-said o)) (add-answer (r .answer)) (r .sender)
 
-pub record Removes (t : ℕ) (s : Sender) (r : Telling) : Type 0 where
+pub record Removes (t : ℕ) (s : Sender) (r : Touching) : Type 0 where
   pub exact : r ≡ removing-of t s
   pub kept : Kept s (Def.Call.touch t Def.Touch.remove) (Def.Answer.truth (r .yes)) (r .sender)
 
-pub record Prompts (t : ℕ) (start : Time) (s : Sender) (r : Telling) : Type 0 where
+pub record Prompts (t : ℕ) (start : Time) (s : Sender) (r : Touching) : Type 0 where
   pub exact : r ≡ prompting-of t start s
   pub kept : Kept s (Def.Call.touch t (Def.Touch.trigger (time-of start))) (Def.Answer.truth (r .yes)) (r .sender)
 
@@ -266,7 +266,7 @@ pub record Lists (t : ℕ) (s : Sender) (r : Bool) : Type 0 where
   pub exact : r ≡ is-added-of t (s .fdt)
   pub kept : Kept s (Def.Call.ask (Def.Question.listed t)) (Def.Answer.truth r) s
 
-pub record Totals (t : ℕ) (s : Sender) (r : Transfers) : Type 0 where
+pub record CountsTransfers (t : ℕ) (s : Sender) (r : Transfers) : Type 0 where
   pub exact : transfers-said r ≡ transfers-of t (s .fdt)
   pub kept : Kept s (Def.Call.ask (Def.Question.transfers t)) (Def.Answer.transferred (transfers-said r)) s
 

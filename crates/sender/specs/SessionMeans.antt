@@ -13,7 +13,7 @@ use Rattle.lifecycle.specs.declared.fdt.Settings.{Settings}
 use Rattle.lifecycle.specs.declared.fdt.Fdt.{Fdt}
 use Rattle.definition.specs.FdtSession as DefFdt
 use Rattle.definition.specs.Session as Def
-use Rattle.sender.specs.EncoderCalls.{Valid as EncoderValid}
+use Rattle.sender.specs.EncoderCalls.{ValidEncoder}
 use Rattle.sender.specs.SessionCalls.{object-of, idle-of}
 use Rattle.sender.specs.FdtSessionCalls.{fdt-hand-of}
 use Rattle.sender.specs.declared.sendersession.SenderSession.{SenderSession}
@@ -25,7 +25,7 @@ use Rattle.sender.specs.declared.fdtsession.FdtSession.{FdtSession}
 pub record InHand (f : Fdt) (w : ℕ) (x : SenderSession) : Type 0 where
   pub slot : x .slot < object-slots
   pub sent : sends (slot-at (f .slots) (x .slot)) ≡ true
-  pub encoder : EncoderValid (x .encoder)
+  pub encoder : ValidEncoder (x .encoder)
   pub part : x .encoder .content .part ≡ file-at (f .slots) (x .slot) .part
   pub sizes : x .encoder .content .sizes ≡ file-at (f .slots) (x .slot) .sizes
   pub width : x .encoder .width ≡ w
@@ -43,7 +43,7 @@ queue-of f = map object-of (files f)
 
 -- the encoder is one of an FDT
 pub record FdtInHand (f : Fdt) (w : ℕ) (x : FdtSession) : Type 0 where
-  pub encoder : EncoderValid (x .encoder)
+  pub encoder : ValidEncoder (x .encoder)
   pub sizes : x .encoder .content .sizes ≡ f .settings .sizes
   pub width : x .encoder .width ≡ w
 

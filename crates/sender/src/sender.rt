@@ -7,11 +7,11 @@ ghost use Rattle.sizes.specs.Limits.{most-sessions, object-slots};
 ghost use Rattle.lifecycle.specs.Slots.{slot-at};
 ghost use Rattle.lifecycle.specs.FdtCalls.{draft-said};
 ghost use Rattle.sender.specs.SessionCalls.{idle-of};
-ghost use Rattle.sender.specs.SenderCalls.{Valid, has-priority, with-list, with-session, with-fdt-session, answer-of, request-of, draft-answer, Reserves, Releases, Adds, Removes, Prompts, Lists, Totals, Completes, Publishes, RunsFdt, RunsFile};
+ghost use Rattle.sender.specs.SenderCalls.{ValidSender, has-priority, with-list, with-session, with-fdt-session, answer-of, request-of, draft-answer, Reserves, Releases, Adds, Removes, Prompts, Lists, CountsTransfers, Completes, Publishes, RunsFdt, RunsFile};
 use crate::blockencoder::Symbol;
 use crate::fdtsession::FdtSession;
+use crate::sendersession::Outcome;
 use crate::sendersession::SenderSession;
-use crate::sendersession::Served;
 use lifecycle::announce::Draft;
 use lifecycle::fdt::Admission;
 use lifecycle::fdt::DraftTest;
@@ -23,7 +23,7 @@ use lifecycle::fdt::Request;
 use lifecycle::fdt::Transfers;
 use lifecycle::fdt::real_draft;
 use lifecycle::filedesc::Carousel;
-use lifecycle::filedesc::Rule;
+use lifecycle::filedesc::Plan;
 use lifecycle::filedesc::Target;
 use lifecycle::filedesc::Time;
 use lifecycle::parts::Part;
@@ -86,7 +86,7 @@ pub struct Adding {
 }
 
 // Yes or no.
-pub struct Telling {
+pub struct Touching {
     pub yes: bool,
     pub sender: Sender,
 }
@@ -104,13 +104,13 @@ pub struct Running {
 }
 
 // The answer of a run of a session.
-fn run_answer(answer: Served, is_fdt: bool, toi: u64, fdt_id: u32) -> RunAnswer
+fn run_answer(answer: Outcome, is_fdt: bool, toi: u64, fdt_id: u32) -> RunAnswer
     ensures { λ r. ⌜ r ≡ answer-of «is_fdt» toi «fdt_id» answer ⌝ }
 {
     match answer {
-        Served::Idle => RunAnswer::Nothing,
-        Served::Over => RunAnswer::Nothing,
-        Served::Sent(symbol) => RunAnswer::Packet(Packet {
+        Outcome::Idle => RunAnswer::Nothing,
+        Outcome::Over => RunAnswer::Nothing,
+        Outcome::Sent(symbol) => RunAnswer::Packet(Packet {
             is_fdt,
             toi,
             fdt_id,
@@ -132,7 +132,7 @@ fn request(o: Object) -> Request
         priority: o.priority,
         part,
         own,
-        rule: Rule::new(o.most, carousel, target, o.stop_at_once),
+        plan: Plan::new(o.most, carousel, target, o.stop_at_once),
         start,
     }
 }
@@ -160,7 +160,7 @@ fn draft_answer(t: DraftTest) -> RunAnswer
 impl Sender {
     // Has a file session this priority?
     fn has_priority(self, priority: u32) -> bool
-        requires { ⌜ Valid self ⌝ }
+        requires { ⌜ ValidSender self ⌝ }
         ensures { λ r. ⌜ r ≡ any (has-priority priority) (take (self .count) (self .sessions)) ⌝ }
     {
         let n = self.count;
@@ -187,7 +187,7 @@ impl Sender {
 
     // File session k.
     fn session_at(self, k: usize) -> SenderSession
-        requires { ⌜ Valid self × (k < self .count) ⌝ }
+        requires { ⌜ ValidSender self × (k < self .count) ⌝ }
         ensures { λ r. ⌜ r ≡ getD (self .sessions) k (idle-of 0) ⌝ }
     {
         let sessions = self.sessions;
@@ -223,7 +223,7 @@ impl Sender {
 
     // The next object number, held from now on as a loose reservation.
     pub fn reserve(mut self) -> Reserving
-        requires { ⌜ Valid self ⌝ }
+        requires { ⌜ ValidSender self ⌝ }
         ensures { λ r. ⌜ Reserves self r ⌝ }
     {
         let r = self.fdt.allocate_toi();
@@ -237,7 +237,7 @@ impl Sender {
 
     // A loose reservation is let go.
     pub fn release(mut self, toi: u64) -> Releasing
-        requires { ⌜ Valid self ⌝ }
+        requires { ⌜ ValidSender self ⌝ }
         ensures { λ r. ⌜ Releases toi self r ⌝ }
     {
         let r = self.fdt.release_toi(toi);
@@ -250,26 +250,26 @@ impl Sender {
     }
 
     // The object with this number leaves the list; a session that sends it keeps it.
-    pub fn remove(mut self, toi: u64) -> Telling
-        requires { ⌜ Valid self ⌝ }
+    pub fn remove(mut self, toi: u64) -> Touching
+        requires { ⌜ ValidSender self ⌝ }
         ensures { λ r. ⌜ Removes toi self r ⌝ }
     {
         let r = self.fdt.remove_object(toi);
         self = self.with_fdt(r.fdt);
-        Telling {
+        Touching {
             yes: r.yes,
             sender: self,
         }
     }
 
     // The object with this number may start anew, at the named start if one is given; one in transfer stays as it is.
-    pub fn trigger(mut self, toi: u64, start: Time) -> Telling
-        requires { ⌜ Valid self ⌝ }
+    pub fn trigger(mut self, toi: u64, start: Time) -> Touching
+        requires { ⌜ ValidSender self ⌝ }
         ensures { λ r. ⌜ Prompts toi start self r ⌝ }
     {
         let r = self.fdt.trigger_transfer_at(toi, start);
         self = self.with_fdt(r.fdt);
-        Telling {
+        Touching {
             yes: r.yes,
             sender: self,
         }
@@ -277,7 +277,7 @@ impl Sender {
 
     // Is an object with this number listed?
     pub fn listed(self, toi: u64) -> bool
-        requires { ⌜ Valid self ⌝ }
+        requires { ⌜ ValidSender self ⌝ }
         ensures { λ r. ⌜ Lists toi self r ⌝ }
     {
         self.fdt.is_added(toi)
@@ -285,15 +285,15 @@ impl Sender {
 
     // How often the listed object with this number was sent.
     pub fn transfers(self, toi: u64) -> Transfers
-        requires { ⌜ Valid self ⌝ }
-        ensures { λ r. ⌜ Totals toi self r ⌝ }
+        requires { ⌜ ValidSender self ⌝ }
+        ensures { λ r. ⌜ CountsTransfers toi self r ⌝ }
     {
         self.fdt.nb_transfers(toi)
     }
 
     // From now on no object is added.
     pub fn complete(mut self) -> Sender
-        requires { ⌜ Valid self ⌝ }
+        requires { ⌜ ValidSender self ⌝ }
         ensures { λ r. ⌜ Completes self r ⌝ }
     {
         self.fdt = self.fdt.set_complete();
@@ -302,7 +302,7 @@ impl Sender {
 
     // The part is queued as the next FDT, and every listed object is published.
     pub fn publish(mut self, now: u64, part: Part) -> Publishing
-        requires { ⌜ Valid self ⌝ }
+        requires { ⌜ ValidSender self ⌝ }
         ensures { λ r. ⌜ Publishes now part self r ⌝ }
     {
         let r = self.fdt.publish(now, part);
@@ -316,7 +316,7 @@ impl Sender {
 
     // An object is listed, under the reservation that it names or the next number.
     pub fn add(mut self, o: Object, named: Named) -> Adding
-        requires { ⌜ Valid self ⌝ }
+        requires { ⌜ ValidSender self ⌝ }
         ensures { λ r. ⌜ Adds o named self r ⌝ }
     {
         if !self.has_priority(o.priority) {
@@ -336,7 +336,7 @@ impl Sender {
 
     // The FDT session, with a draft or none.
     pub fn run_fdt(mut self, now: u64, draft: Draft) -> Running
-        requires { ⌜ Valid self ⌝ }
+        requires { ⌜ ValidSender self ⌝ }
         ensures { λ r. ⌜ RunsFdt now draft self r ⌝ }
     {
         let d = real_draft(draft);
@@ -361,7 +361,7 @@ impl Sender {
 
     // File session i.
     pub fn run(mut self, i: u64, now: u64) -> Running
-        requires { ⌜ Valid self ⌝ }
+        requires { ⌜ ValidSender self ⌝ }
         ensures { λ r. ⌜ RunsFile i now self r ⌝ }
     {
         if self.count as u64 <= i {

@@ -3,7 +3,7 @@ ghost use mathlib.Core.Path.{_≡_};
 ghost use Prim.Native.Nat.{_<_, _≤_};
 ghost use Rattle.sizes.specs.Limits.{object-slots, largest-window};
 ghost use Rattle.lifecycle.specs.Slots.{slot-at};
-ghost use Rattle.sender.specs.EncoderCalls.{Valid as EncoderValid};
+ghost use Rattle.sender.specs.EncoderCalls.{ValidEncoder};
 ghost use Rattle.sender.specs.SessionCalls.{Ready, Holds, Runs, no-encoder, idle-of, begun-of, forced-slot, served-of, attended-of, taken-on-of, ran-of};
 use crate::block::no_open;
 use crate::blockencoder::BlockEncoder;
@@ -32,19 +32,19 @@ pub struct SenderSession {
 }
 
 // What a session comes to: no packet now, a packet's symbol, or that the transfer is over.
-pub enum Served {
+pub enum Outcome {
     Idle,
     Sent(Symbol),
     Over,
 }
 
-pub struct Service {
-    pub answer: Served,
+pub struct Serving {
+    pub answer: Outcome,
     pub session: SenderSession,
 }
 
-pub struct Ran {
-    pub answer: Served,
+pub struct Turn {
+    pub answer: Outcome,
     pub fdt: Fdt,
     pub session: SenderSession,
 }
@@ -61,7 +61,7 @@ pub fn no_encoder() -> BlockEncoder
             partition: Partition {
                 large: 0,
                 small: 0,
-                bigs: 0,
+                nb_a_large: 0,
                 blocks: 0,
             },
         },
@@ -128,59 +128,59 @@ impl SenderSession {
     }
 
     // Nothing while an FDT is queued or before the due time; else the next packet, or that the transfer is over.
-    fn serve(mut self, forced: bool, blocked: bool, now: u64) -> Service
-        requires { ⌜ EncoderValid (self .encoder) ⌝ }
+    fn serve(mut self, forced: bool, blocked: bool, now: u64) -> Serving
+        requires { ⌜ ValidEncoder (self .encoder) ⌝ }
         ensures { λ r. ⌜ r ≡ served-of forced blocked now self ⌝ }
     {
         if blocked {
-            return Service {
-                answer: Served::Idle,
+            return Serving {
+                answer: Outcome::Idle,
                 session: self,
             };
         }
         let pace = self.pace;
         if pace.is_early(now) {
-            return Service {
-                answer: Served::Idle,
+            return Serving {
+                answer: Outcome::Idle,
                 session: self,
             };
         }
         let r = self.encoder.read(forced);
         let answer = r.answer;
         let Emitted::One(s) = answer else {
-            return Service {
-                answer: Served::Over,
+            return Serving {
+                answer: Outcome::Over,
                 session: self,
             };
         };
         let after = r.encoder;
         self.pace = pace.ticked();
         self.encoder = after;
-        Service {
-            answer: Served::Sent(s),
+        Serving {
+            answer: Outcome::Sent(s),
             session: self,
         }
     }
 
     // With an object in hand: at the end of its transfer it is done, and the hand is empty.
-    fn attend(mut self, mut fdt: Fdt, now: u64) -> Ran
+    fn attend(mut self, mut fdt: Fdt, now: u64) -> Turn
         requires { ⌜ Ready fdt self ⌝ }
         ensures { λ r. ⌜ r ≡ attended-of now fdt self ⌝ }
     {
         let k = self.slot;
         let r = self.serve(is_forced(slot_at(fdt, k)), fdt.need_transfer_fdt(), now);
         let answer = r.answer;
-        if let Served::Over = answer {
+        if let Outcome::Over = answer {
             fdt = fdt.transfer_done(k, now);
             self = SenderSession::idle(self.priority);
-            return Ran {
+            return Turn {
                 answer,
                 fdt,
                 session: self,
             };
         }
         self = r.session;
-        Ran {
+        Turn {
             answer,
             fdt,
             session: self,
@@ -188,7 +188,7 @@ impl SenderSession {
     }
 
     // With nothing in hand: the first in the queue that may start is taken.
-    fn take_on(mut self, mut fdt: Fdt, width: usize, now: u64) -> Ran
+    fn take_on(mut self, mut fdt: Fdt, width: usize, now: u64) -> Turn
         requires { ⌜ Holds fdt × (width ≤ largest-window) ⌝ }
         ensures { λ r. ⌜ r ≡ taken-on-of width now fdt self ⌝ }
     {
@@ -196,8 +196,8 @@ impl SenderSession {
         let answer = t.answer;
         fdt = t.fdt;
         let Place::At(k) = answer else {
-            return Ran {
-                answer: Served::Idle,
+            return Turn {
+                answer: Outcome::Idle,
                 fdt,
                 session: self,
             };
@@ -207,14 +207,14 @@ impl SenderSession {
     }
 
     // In order: without an object take the next; on the end of a transfer go round again, once.
-    pub(crate) fn run(self, fdt: Fdt, width: usize, now: u64) -> Ran
+    pub(crate) fn run(self, fdt: Fdt, width: usize, now: u64) -> Turn
         requires { ⌜ Runs fdt width self ⌝ }
         ensures { λ r. ⌜ r ≡ ran-of width now fdt self ⌝ }
     {
         if self.busy {
             let a = self.attend(fdt, now);
             let answer = a.answer;
-            if let Served::Over = answer {
+            if let Outcome::Over = answer {
                 let x = a.session;
                 return x.take_on(a.fdt, width, now);
             }

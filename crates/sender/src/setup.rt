@@ -4,7 +4,7 @@ ghost use Prim.Native.Nat.{_<_, _≤_};
 ghost use Rattle.sizes.specs.Limits.{most-sessions, largest-fdt-id};
 ghost use Rattle.sizes.specs.Allocator.{bits};
 ghost use Rattle.lifecycle.specs.Setup.{sound};
-ghost use Rattle.sender.specs.SetupCalls.{setup-said, width-said, is-interval, interval-in, settings-of, priority-at, opening-of, plain, refused-of, Opens};
+ghost use Rattle.sender.specs.SetupCalls.{setup-said, width-said, is-interval, interval-in, settings-of, priority-at, opening-sender, plain, refused-of, Opens};
 use crate::fdtsession::FdtSession;
 use crate::sender::Sender;
 use crate::sendersession::SenderSession;
@@ -144,7 +144,7 @@ fn priority_of(priorities: [u32; MOST_SESSIONS], n: u64, i: usize) -> u32
 // The sender before the first call: nothing is held, and every session is idle.
 fn open(z: Setup, w: ToiMaxLength) -> Sender
     requires { ⌜ (z .width ≡ bits w) × (z .«first_fdt_id» ≤ largest-fdt-id) ⌝ }
-    ensures { λ r. ⌜ r ≡ opening-of z ⌝ }
+    ensures { λ r. ⌜ r ≡ opening-sender z ⌝ }
 {
     let tois = ToiAllocator::new(w, z.first_toi);
     let p = z.priorities;

@@ -9,7 +9,7 @@ use lib.Dec.{eqb}
 use borrow.Author.Tests.{eqb-true, not-true, lt-ltb, le-ltb}
 use Rattle.sizes.specs.Words.{if_then_else_, maybe, given, keep, has, at, place, collect, one-if, times}
 use Rattle.sizes.specs.Limits.{toi-entries}
-use Rattle.sizes.specs.Allocator.{noted, held, loose-in, bound-in, loose, bound, entry-is, opening, noting, moved-on, allocated-of, bound-at, without, unchanged, changed, claimed-of, dropped-of, Valid}
+use Rattle.sizes.specs.Allocator.{noted, held, loose-in, bound-in, loose, bound, entry-is, new-allocator, noting, moved-on, allocated-of, bound-at, entry-gone, unchanged, changed, claimed-of, dropped-of, ValidAllocator}
 use Rattle.sizes.specs.declared.toiallocator.Entry.{Entry}
 use Rattle.sizes.specs.declared.toiallocator.ToiAllocator.{ToiAllocator}
 use Rattle.sizes.proofs.Tests.{and-left, and-right}
@@ -82,8 +82,8 @@ abbrev pub but : ℕ → List ℕ → List ℕ
 but t = keep (λ u. not (eqb u t))
 
 -- before the first call no number is held
-pub opened-view : (w n : ℕ) → (loose (opening w n) ≡ []) × (bound (opening w n) ≡ [])
-unfolding opening
+pub opened-view : (w n : ℕ) → (loose (new-allocator w n) ≡ []) × (bound (new-allocator w n) ≡ [])
+unfolding new-allocator
 opened-view w n = (refl, refl)
 
 -- a loose reservation is gone
@@ -98,7 +98,7 @@ pub record Claimed (t : ℕ) (a b : ToiAllocator) : Type 0 where
   pub loose-left : loose b ≡ but t (loose a)
   pub one-more : (n : ℕ) → times n (bound b) ≡ times n (bound a) + one-if (eqb t n)
 
-module _ (a : ToiAllocator) (v : Valid a) where
+module _ (a : ToiAllocator) (v : ValidAllocator a) where
   noted-given : (flag : Bool) → a .entered < toi-entries → noted (moved-on (noting flag a)) ≡ noted a ++ (record { toi = a .next; loose = flag } ∷ [])
   unfolding moved-on
   noted-given flag h = noted-noting a v flag h
@@ -123,13 +123,13 @@ module _ (a : ToiAllocator) (v : Valid a) where
 
   -- release: where the number is not loose, nothing changes
   pub released-view : (t : ℕ) → Released t a (dropped-of true t a .allocator)
-  unfolding dropped-of without
+  unfolding dropped-of entry-gone
   released-view t = go (sought (entry-is t true) (noted a))
     where
       absent : place (entry-is t true) (noted a) ≡ none → times t (loose a) ≡ 0
       absent p = has-none t (loose a) (sym (loose-found t (noted a)) ∙ ap given p)
 
-      go : Sought (entry-is t true) (noted a) → Released t a (maybe (unchanged a) (λ i. changed (without a i)) (place (entry-is t true) (noted a)) .allocator)
+      go : Sought (entry-is t true) (noted a) → Released t a (maybe (unchanged a) (λ i. changed (entry-gone a i)) (place (entry-is t true) (noted a)) .allocator)
       go (miss p u) = rw p (record { next-same = refl; loose-left = sym (keep-absent t (loose a) (absent p)); bound-same = refl })
       go (hit i e h) = rw (h .found) (
           let q = noted-without a v t true i e h in
@@ -161,10 +161,10 @@ module _ (a : ToiAllocator) (v : Valid a) where
 
   -- free
   pub freed-view : (t : ℕ) → 1 ≤ times t (bound a) → Freed t a (dropped-of false t a .allocator)
-  unfolding dropped-of without
+  unfolding dropped-of entry-gone
   freed-view t l = go (sought (entry-is t false) (noted a))
     where
-      go : Sought (entry-is t false) (noted a) → Freed t a (maybe (unchanged a) (λ i. changed (without a i)) (place (entry-is t false) (noted a)) .allocator)
+      go : Sought (entry-is t false) (noted a) → Freed t a (maybe (unchanged a) (λ i. changed (entry-gone a i)) (place (entry-is t false) (noted a)) .allocator)
       go (miss p u) = let z = bound-none t (noted a) u in absurd (omega arith)
       go (hit i e h) = rw (h .found) (
           let q = noted-without a v t false i e h in
@@ -183,6 +183,6 @@ pub released-none : (a : ToiAllocator) (t : ℕ) → has t (loose a) ≡ false �
 unfolding dropped-of
 released-none a t h = go (place (entry-is t true) (noted a)) refl
   where
-    go : (o : Option ℕ) → place (entry-is t true) (noted a) ≡ o → maybe (unchanged a) (λ i. changed (without a i)) (place (entry-is t true) (noted a)) ≡ unchanged a
+    go : (o : Option ℕ) → place (entry-is t true) (noted a) ≡ o → maybe (unchanged a) (λ i. changed (entry-gone a i)) (place (entry-is t true) (noted a)) ≡ unchanged a
     go none p = rw p
     go (some i) p = absurd (true≢false (ap given (sym p) ∙ loose-found t (noted a) ∙ h))

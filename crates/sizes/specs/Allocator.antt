@@ -77,8 +77,8 @@ unfoldable pub entry-is : ℕ → Bool → Entry → Bool
 entry-is t flag e = eqb (e .toi) t && (if flag then e .loose else not (e .loose))
 
 -- before the first call
-unfoldable pub opening : ℕ → ℕ → ToiAllocator
-opening w n = record { entries = replicate toi-entries no-entry; entered = 0; next = first-toi w n; width = w }
+unfoldable pub new-allocator : ℕ → ℕ → ToiAllocator
+new-allocator w n = record { entries = replicate toi-entries no-entry; entered = 0; next = first-toi w n; width = w }
 
 -- the stored next number as one entry more
 unfoldable pub noting : Bool → ToiAllocator → ToiAllocator
@@ -103,8 +103,8 @@ unfoldable pub bound-at : ToiAllocator → ℕ → ℕ → ToiAllocator
 bound-at a t i = record { entries = set (a .entries) i (record { toi = t; loose = false }); entered = a .entered; next = a .next; width = a .width }
 
 -- the entry at place i is gone, the others keep their order, and next stays
-unfoldable pub without : ToiAllocator → ℕ → ToiAllocator
-without a i = record { entries = shut no-entry (a .entries) i; entered = a .entered - 1; next = a .next; width = a .width }
+unfoldable pub entry-gone : ToiAllocator → ℕ → ToiAllocator
+entry-gone a i = record { entries = shut no-entry (a .entries) i; entered = a .entered - 1; next = a .next; width = a .width }
 
 abbrev pub unchanged : ToiAllocator → Changed
 unchanged a = record { answer = Unknown; allocator = a }
@@ -118,7 +118,7 @@ claimed-of t a = maybe (unchanged a) (λ i. changed (bound-at a t i)) (place (en
 
 -- a loose reservation (true), or an object's number (false), is let go
 unfoldable pub dropped-of : Bool → ℕ → ToiAllocator → Changed
-dropped-of flag t a = maybe (unchanged a) (λ i. changed (without a i)) (place (entry-is t flag) (noted a))
+dropped-of flag t a = maybe (unchanged a) (λ i. changed (entry-gone a i)) (place (entry-is t flag) (noted a))
 
 -- what an accepted call of allocate promises: the number is one that an object may have, and nobody held it;
 -- it is held from now on, and the next is the first number after it that is not
@@ -130,7 +130,7 @@ pub record Fresh (flag : Bool) (a : ToiAllocator) (r : Allocated) : Type 0 where
   pub next : FirstFree (a .width) (held (r .allocator)) (a .next) (r .allocator .next)
 
 -- what new and every call give back, and the only premise of a call
-pub record Valid (a : ToiAllocator) : Type 0 where
+pub record ValidAllocator (a : ToiAllocator) : Type 0 where
   pub wide : Width (a .width)
   pub sized : length (a .entries) ≡ toi-entries
   pub room : a .entered ≤ toi-entries
@@ -150,13 +150,13 @@ pub record Searchable (a : ToiAllocator) : Type 0 where
   pub room : a .entered ≤ toi-entries
 
 pub record Opened (w : ToiMaxLength) (n : ℕ) (r : ToiAllocator) : Type 0 where
-  pub exact : r ≡ opening (bits w) n
-  pub valid : Valid r
+  pub exact : r ≡ new-allocator (bits w) n
+  pub valid : ValidAllocator r
 
 pub record Gives (flag : Bool) (a : ToiAllocator) (r : Allocated) : Type 0 where
   pub exact : r ≡ allocated-of flag a
-  pub valid : Valid (r .allocator)
+  pub valid : ValidAllocator (r .allocator)
 
 pub record Becomes (s r : Changed) : Type 0 where
   pub exact : r ≡ s
-  pub valid : Valid (r .allocator)
+  pub valid : ValidAllocator (r .allocator)

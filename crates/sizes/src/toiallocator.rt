@@ -8,7 +8,7 @@ ghost use Rattle.sizes.specs.Place.{place-said};
 ghost use Rattle.sizes.specs.Toi.{skip-zero, next-toi};
 ghost use Rattle.sizes.specs.Toi.{after as Toi·after};
 ghost use Rattle.sizes.specs.Allocator.{loose as Allocator·loose};
-ghost use Rattle.sizes.specs.Allocator.{bits, Width, held, noted, entry-is, no-entry, Searchable, noting, claimed-of, dropped-of, Valid, Opened, Gives, Becomes};
+ghost use Rattle.sizes.specs.Allocator.{bits, Width, held, noted, entry-is, no-entry, Searchable, noting, claimed-of, dropped-of, ValidAllocator, Opened, Gives, Becomes};
 use crate::limits::TOI_ENTRIES;
 use crate::place::Place;
 
@@ -167,7 +167,7 @@ impl ToiAllocator {
 
     // Where the entry of a loose reservation (or of an object) with this number stands.
     fn find(self, toi: u64, loose: bool) -> Place
-        requires { ⌜ Valid self ⌝ }
+        requires { ⌜ ValidAllocator self ⌝ }
         ensures { λ r. ⌜ place-said r ≡ place (entry-is toi loose) (noted self) ⌝ }
     {
         let n = self.entered;
@@ -184,7 +184,7 @@ impl ToiAllocator {
 
     // Is the number that of a loose reservation?
     pub fn is_loose(self, toi: u64) -> bool
-        requires { ⌜ Valid self ⌝ }
+        requires { ⌜ ValidAllocator self ⌝ }
         ensures { λ r. ⌜ r ≡ has toi (Allocator·loose self) ⌝ }
     {
         match self.find(toi, true) {
@@ -228,7 +228,7 @@ impl ToiAllocator {
 
     // Gives the stored next number to a reservation (loose) or to an object, and goes on to the next that is not held.
     pub fn allocate(self, loose: bool) -> Allocated
-        requires { ⌜ Valid self ⌝ }
+        requires { ⌜ ValidAllocator self ⌝ }
         ensures { λ r. ⌜ Gives loose self r ⌝ }
     {
         if TOI_ENTRIES <= self.entered {
@@ -247,7 +247,7 @@ impl ToiAllocator {
 
     // A loose reservation becomes an object's number.
     pub fn claim(self, toi: u64) -> Changed
-        requires { ⌜ Valid self ⌝ }
+        requires { ⌜ ValidAllocator self ⌝ }
         ensures { λ r. ⌜ Becomes (claimed-of toi self) r ⌝ }
     {
         let Place::At(at) = self.find(toi, true) else {
@@ -266,7 +266,7 @@ impl ToiAllocator {
 
     // The entry of a loose reservation (or of an object) goes.
     fn drop_entry(self, toi: u64, loose: bool) -> Changed
-        requires { ⌜ Valid self ⌝ }
+        requires { ⌜ ValidAllocator self ⌝ }
         ensures { λ r. ⌜ Becomes (dropped-of loose toi self) r ⌝ }
     {
         let Place::At(at) = self.find(toi, loose) else {
@@ -290,7 +290,7 @@ impl ToiAllocator {
 
     // A loose reservation is let go. `next` stays.
     pub fn release(self, toi: u64) -> Changed
-        requires { ⌜ Valid self ⌝ }
+        requires { ⌜ ValidAllocator self ⌝ }
         ensures { λ r. ⌜ Becomes (dropped-of true toi self) r ⌝ }
     {
         self.drop_entry(toi, true)
@@ -298,7 +298,7 @@ impl ToiAllocator {
 
     // An object's number is let go. `next` stays.
     pub fn free(self, toi: u64) -> Changed
-        requires { ⌜ Valid self ⌝ }
+        requires { ⌜ ValidAllocator self ⌝ }
         ensures { λ r. ⌜ Becomes (dropped-of false toi self) r ⌝ }
     {
         self.drop_entry(toi, false)

@@ -1,11 +1,11 @@
 -- `desk_program::answer_all` is safe and ends. The sender stays valid; the measure is the number of lines that are left.
 use borrow.Author.Needs.{needs}
-use Rattle.sender.specs.SenderCalls.{Valid}
+use Rattle.sender.specs.SenderCalls.{ValidSender}
 use Rattle.desk_program.proofs.answer_all.Statement.{statement}
 use Rattle.desk_program.proofs.answer_all.Tie as tie
 
 abbrev Inv-loop : tie.InvT-loop
-Inv-loop objects fdts buf₀ desk₀ lines₀ buf desk lines = Valid (desk .sender)
+Inv-loop objects fdts buf₀ desk₀ lines₀ buf desk lines = ValidSender (desk .sender)
 
 abbrev μ-loop : tie.MeasureT-loop
 μ-loop objects fdts buf₀ desk₀ lines₀ buf desk lines = lines .left

@@ -4,12 +4,12 @@ use mathlib.Core.Path.{_≡_}
 use Prim.Native.Nat.{_≤_}
 use borrow.Author.Needs.{needs}
 use lib.ListN.{length}
-use Rattle.sender.specs.EncoderCalls.{Valid}
+use Rattle.sender.specs.EncoderCalls.{ValidEncoder}
 use Rattle.drain_program.proofs.send.Statement.{statement}
 use Rattle.drain_program.proofs.send.Tie as tie
 
 abbrev Inv-loop : tie.InvT-loop
-Inv-loop out₀ used₀ encoder₀ turns₀ out used encoder turns = (length out ≡ 65536) × (used ≤ 65536) × Valid encoder
+Inv-loop out₀ used₀ encoder₀ turns₀ out used encoder turns = (length out ≡ 65536) × (used ≤ 65536) × ValidEncoder encoder
 
 abbrev μ-loop : tie.MeasureT-loop
 μ-loop out₀ used₀ encoder₀ turns₀ out used encoder turns = turns

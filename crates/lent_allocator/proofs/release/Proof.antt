@@ -16,7 +16,7 @@ use denote.Triple.Table.{entered, cited}
 use mathlib.Core.Bool.{true}
 use mir.Syntax.{named, mut, tyRef, w64}
 use denote.Builtin.{u64}
-use Rattle.sizes.specs.Allocator.{Valid, dropped-of, Becomes}
+use Rattle.sizes.specs.Allocator.{ValidAllocator, dropped-of, Becomes}
 use Rattle.sizes.proofs.toiallocator.ToiAllocator as T
 use Rattle.sizes.proofs.toiallocator.Known as K
 use Rattle.sizes.proofs.toiallocator.Changed as C
@@ -35,12 +35,12 @@ use Rattle.lent_allocator.proofs.release.Code as code
 code-is : code.function ≡ answers₁-fn (tyRef (named 0) mut (pointee (T.the-row .written))) (lone (T.the-row .mir)) (lone (C.the-row .mir)) (lone (K.the-row .mir)) (lone (u64 .mir)) #called
 code-is = refl
 
-clauses-are : {M : Type 1} (𝓤 : URA M) (H : Heap 𝓤) (A : Atoms 𝓤) (W : Given 𝓤 H A) (at-mem : Memory → SProp 𝓤) (run : Routine → Fun 𝓤) → f.clauses 𝓤 H A at-mem run ≡ answers₁-clauses T.the-row K.the-row C.the-row u64 𝓤 H A (allocator 𝓤 H A W) (known 𝓤 H A W) (uint-data 𝓤 H A W w64) (changed 𝓤 H A W) (λ a toi. fact 𝓤 (Valid a)) (λ a toi b r. Becomes (dropped-of true toi a) (record { answer = r; allocator = b }))
+clauses-are : {M : Type 1} (𝓤 : URA M) (H : Heap 𝓤) (A : Atoms 𝓤) (W : Given 𝓤 H A) (at-mem : Memory → SProp 𝓤) (run : Routine → Fun 𝓤) → f.clauses 𝓤 H A at-mem run ≡ answers₁-clauses T.the-row K.the-row C.the-row u64 𝓤 H A (allocator 𝓤 H A W) (known 𝓤 H A W) (uint-data 𝓤 H A W w64) (changed 𝓤 H A W) (λ a toi. fact 𝓤 (ValidAllocator a)) (λ a toi b r. Becomes (dropped-of true toi a) (record { answer = r; allocator = b }))
 clauses-are 𝓤 H A W at-mem run = refl
 
 meets : {M : Type 1} (𝓤 : URA M) (H : Heap 𝓤) (A : Atoms 𝓤) (W : Given 𝓤 H A) (at-mem : Memory → SProp 𝓤) (run : Routine → Fun 𝓤) (𝓣 : Tables 𝓤 H)
     → Triple 𝓤 (𝓣 .C #called) (tripleOf 𝓤 H A nx.signature (nx.spec 𝓤 H A at-mem run)) → Meets 𝓤 H A f.signature (WpFn 𝓤 H (𝓣 .C) (𝓣 .Λ) code.function) (f.spec 𝓤 H A at-mem run)
-meets 𝓤 H A W at-mem run 𝓣 = answers₁ T.the-row K.the-row C.the-row u64 𝓤 H A (allocator 𝓤 H A W) (known 𝓤 H A W) (uint-data 𝓤 H A W w64) (changed 𝓤 H A W) (λ a toi. fact 𝓤 (Valid a)) (λ a toi b r. Becomes (dropped-of true toi a) (record { answer = r; allocator = b })) W 𝓣 #called
+meets 𝓤 H A W at-mem run 𝓣 = answers₁ T.the-row K.the-row C.the-row u64 𝓤 H A (allocator 𝓤 H A W) (known 𝓤 H A W) (uint-data 𝓤 H A W w64) (changed 𝓤 H A W) (λ a toi. fact 𝓤 (ValidAllocator a)) (λ a toi b r. Becomes (dropped-of true toi a) (record { answer = r; allocator = b })) W 𝓣 #called
 
 pub release-spec : {M : Type 1} → stated.statement M
 unfolding code.routine tablesOf

@@ -15,7 +15,7 @@ use denote.Triple.Spec.{Meets, tripleOf}
 use denote.Triple.Table.{entered, cited}
 use mathlib.Core.Bool.{true}
 use mir.Syntax.{named, mut, tyRef}
-use Rattle.sizes.specs.Allocator.{Valid, Gives}
+use Rattle.sizes.specs.Allocator.{ValidAllocator, Gives}
 use Rattle.sizes.proofs.toiallocator.ToiAllocator as T
 use Rattle.sizes.proofs.toiallocator.Given as N
 use Rattle.sizes.proofs.toiallocator.Allocated as G
@@ -34,12 +34,12 @@ use Rattle.lent_allocator.proofs.reserve.Code as code
 code-is : code.function ≡ answers₀-fn (tyRef (named 0) mut (pointee (T.the-row .written))) (lone (T.the-row .mir)) (lone (G.the-row .mir)) (lone (N.the-row .mir)) #called
 code-is = refl
 
-clauses-are : {M : Type 1} (𝓤 : URA M) (H : Heap 𝓤) (A : Atoms 𝓤) (W : Given 𝓤 H A) (at-mem : Memory → SProp 𝓤) (run : Routine → Fun 𝓤) → f.clauses 𝓤 H A at-mem run ≡ answers₀-clauses T.the-row N.the-row G.the-row 𝓤 H A (allocator 𝓤 H A W) (given 𝓤 H A W) (allocated 𝓤 H A W) (λ a. fact 𝓤 (Valid a)) (λ a b r. Gives true a (record { answer = r; allocator = b }))
+clauses-are : {M : Type 1} (𝓤 : URA M) (H : Heap 𝓤) (A : Atoms 𝓤) (W : Given 𝓤 H A) (at-mem : Memory → SProp 𝓤) (run : Routine → Fun 𝓤) → f.clauses 𝓤 H A at-mem run ≡ answers₀-clauses T.the-row N.the-row G.the-row 𝓤 H A (allocator 𝓤 H A W) (given 𝓤 H A W) (allocated 𝓤 H A W) (λ a. fact 𝓤 (ValidAllocator a)) (λ a b r. Gives true a (record { answer = r; allocator = b }))
 clauses-are 𝓤 H A W at-mem run = refl
 
 meets : {M : Type 1} (𝓤 : URA M) (H : Heap 𝓤) (A : Atoms 𝓤) (W : Given 𝓤 H A) (at-mem : Memory → SProp 𝓤) (run : Routine → Fun 𝓤) (𝓣 : Tables 𝓤 H)
     → Triple 𝓤 (𝓣 .C #called) (tripleOf 𝓤 H A nx.signature (nx.spec 𝓤 H A at-mem run)) → Meets 𝓤 H A f.signature (WpFn 𝓤 H (𝓣 .C) (𝓣 .Λ) code.function) (f.spec 𝓤 H A at-mem run)
-meets 𝓤 H A W at-mem run 𝓣 = answers₀ T.the-row N.the-row G.the-row 𝓤 H A (allocator 𝓤 H A W) (given 𝓤 H A W) (allocated 𝓤 H A W) (λ a. fact 𝓤 (Valid a)) (λ a b r. Gives true a (record { answer = r; allocator = b })) W 𝓣 #called
+meets 𝓤 H A W at-mem run 𝓣 = answers₀ T.the-row N.the-row G.the-row 𝓤 H A (allocator 𝓤 H A W) (given 𝓤 H A W) (allocated 𝓤 H A W) (λ a. fact 𝓤 (ValidAllocator a)) (λ a b r. Gives true a (record { answer = r; allocator = b })) W 𝓣 #called
 
 pub reserve-spec : {M : Type 1} → stated.statement M
 unfolding code.routine tablesOf

@@ -10,24 +10,24 @@ use lib.ListN.{length, take}
 use Rattle.sizes.specs.Words.{maybe}
 use Rattle.text.specs.Bytes.{part}
 use Rattle.text.proofs.Lists.{part-in}
-use Rattle.wire.specs.Record.{Said, read-answer, Reads}
+use Rattle.wire.specs.Record.{RecordAnswer, read-answer, RecordReads}
 use Rattle.wire.specs.declared.record.Reading.{Reading}
 use Rattle.record_program.specs.Hex.{HexRead, Within, spelled-said}
-use Rattle.record_program.specs.Readings.{reading-said, word-reading}
+use Rattle.record_program.specs.Readings.{word-said, word-reading}
 use Rattle.record_program.specs.declared.ReadWords.the-variants.{Are}
 use Rattle.record_program.specs.declared.hex.Spelled.{Spelled}
 use Rattle.record_program.specs.declared.hex.Spelled.the-variants.{Bytes, Nothing}
 use Rattle.record_program.proofs.read_word.Statement.{statement}
 use Rattle.record_program.proofs.read_word.Tie as tie
 
-abbrev shown : Option (List ℕ) → Option Said
+abbrev shown : Option (List ℕ) → Option RecordAnswer
 shown = maybe none (λ bs. some (read-answer bs))
 
 module _ {w out : List ℕ} {r : Spelled} (h : HexRead w out r) where
   spells-none : r ≡ Nothing → none ≡ word-reading w
   spells-none e = ap shown (ap (spelled-said out) (sym e) ∙ h .exact)
 
-  spells : {bs : List ℕ} {a : Reading} (n : ℕ) → r ≡ Bytes n → bs ≡ part 0 n out → Reads bs a → reading-said (Are a) ≡ word-reading w
+  spells : {bs : List ℕ} {a : Reading} (n : ℕ) → r ≡ Bytes n → bs ≡ part 0 n out → RecordReads bs a → word-said (Are a) ≡ word-reading w
   spells n e p f =
       let low : n ≤ length out = subst (Within out) e (h .inside) in
       let front = part-in 0 n out zero-le low ∙ ap (λ k. take k out) (sub-zero n) in

@@ -16,7 +16,7 @@ raw-length-requires c κs = search needs
 returns : tie.Need-returns
 returns c =
     let a = c .before .before .args in
-    c .raw-length .ensures ∙ ap (λ (p : Partition). length-shown (block-length (sizes-given (p .large) (p .small) (p .bigs)) (a .l) (a .e) (a .sbn))) (c .before .block-partitioning .ensures)
+    c .raw-length .ensures ∙ ap (λ (p : Partition). length-shown (block-length (sizes-given (p .large) (p .small) (p .«nb_a_large»)) (a .l) (a .e) (a .sbn))) (c .before .block-partitioning .ensures)
 
 pub block-length-spec : {M : Type 1} → statement M
 block-length-spec = tie.close (tie.spec block-partitioning-requires raw-length-requires returns)

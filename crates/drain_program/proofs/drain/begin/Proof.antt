@@ -1,6 +1,6 @@
 -- `drain_program::drain::begin` meets its contract.
 use mathlib.Core.Bool.{true, false}
-use Rattle.sender.specs.EncoderCalls.{Valid}
+use Rattle.sender.specs.EncoderCalls.{ValidEncoder}
 use Rattle.sender.specs.declared.blockencoder.BlockEncoder.{BlockEncoder}
 use Rattle.drain_program.specs.declared.drain.Begun.{Begun}
 use Rattle.drain_program.proofs.DrainLaws.{begun-valid, nothing-admitted}
@@ -20,7 +20,7 @@ returns c =
     let e = c .new .ensures in
     let h = sym (c .before .before .is-refused .ensures) ∙ c .before .if1 .taken in
     let f : BlockEncoder → Begun = λ x. record { ok = false; encoder = x } in
-    record { exact = rw h (ap f e); valid = subst Valid (sym e) (begun-valid 0 1 1 1 nothing-admitted) }
+    record { exact = rw h (ap f e); valid = subst ValidEncoder (sym e) (begun-valid 0 1 1 1 nothing-admitted) }
 
 new-requires-2 : tie.Need-new-requires-2
 new-requires-2 c κs = search needs
@@ -31,7 +31,7 @@ returns-2 c =
     let e = c .new2 .ensures in
     let h = sym (c .before .before .is-refused .ensures) ∙ c .before .if1 .left in
     let f : BlockEncoder → Begun = λ x. record { ok = true; encoder = x } in
-    record { exact = rw h (ap f e); valid = subst Valid (sym e) (begun-valid (a .l) (a .e) (a .b) (a .w) h) }
+    record { exact = rw h (ap f e); valid = subst ValidEncoder (sym e) (begun-valid (a .l) (a .e) (a .b) (a .w) h) }
 
 pub begin-spec : {M : Type 1} → statement M
 begin-spec = tie.close (tie.spec is-refused-requires new-requires returns new-requires-2 returns-2)

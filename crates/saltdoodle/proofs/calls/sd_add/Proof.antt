@@ -14,7 +14,7 @@ use denote.Triple.Statement.{Triple}
 use denote.Triple.Spec.{Meets, tripleOf}
 use denote.Triple.Table.{entered, cited}
 use mir.Syntax.{named, mut, tyRef}
-use Rattle.sender.specs.SenderCalls.{Valid}
+use Rattle.sender.specs.SenderCalls.{ValidSender}
 use Rattle.saltdoodle.specs.Lent.{AddsLent}
 use Rattle.sender.proofs.sender.Sender as T
 use Rattle.host_structs.proofs.answers.Numbered as N
@@ -35,12 +35,12 @@ use Rattle.saltdoodle.proofs.calls.sd_add.Code as code
 code-is : code.function ≡ answers₁-fn (tyRef (named 0) mut (pointee (T.the-row .written))) (lone (T.the-row .mir)) (lone (NG.the-row .mir)) (lone (N.the-row .mir)) (lone (O.the-row .mir)) #called
 code-is = refl
 
-clauses-are : {M : Type 1} (𝓤 : URA M) (H : Heap 𝓤) (A : Atoms 𝓤) (W : Given 𝓤 H A) (at-mem : Memory → SProp 𝓤) (run : Routine → Fun 𝓤) → f.clauses 𝓤 H A at-mem run ≡ answers₁-clauses T.the-row N.the-row NG.the-row O.the-row 𝓤 H A (sender 𝓤 H A W) (numbered 𝓤 H A W) (object 𝓤 H A W) (numbering 𝓤 H A W) (λ s o. fact 𝓤 (Valid s)) (λ s o t r. AddsLent o s t r)
+clauses-are : {M : Type 1} (𝓤 : URA M) (H : Heap 𝓤) (A : Atoms 𝓤) (W : Given 𝓤 H A) (at-mem : Memory → SProp 𝓤) (run : Routine → Fun 𝓤) → f.clauses 𝓤 H A at-mem run ≡ answers₁-clauses T.the-row N.the-row NG.the-row O.the-row 𝓤 H A (sender 𝓤 H A W) (numbered 𝓤 H A W) (object 𝓤 H A W) (numbering 𝓤 H A W) (λ s o. fact 𝓤 (ValidSender s)) (λ s o t r. AddsLent o s t r)
 clauses-are 𝓤 H A W at-mem run = refl
 
 meets : {M : Type 1} (𝓤 : URA M) (H : Heap 𝓤) (A : Atoms 𝓤) (W : Given 𝓤 H A) (at-mem : Memory → SProp 𝓤) (run : Routine → Fun 𝓤) (𝓣 : Tables 𝓤 H)
     → Triple 𝓤 (𝓣 .C #called) (tripleOf 𝓤 H A nx.signature (nx.spec 𝓤 H A at-mem run)) → Meets 𝓤 H A f.signature (WpFn 𝓤 H (𝓣 .C) (𝓣 .Λ) code.function) (f.spec 𝓤 H A at-mem run)
-meets 𝓤 H A W at-mem run 𝓣 = answers₁ T.the-row N.the-row NG.the-row O.the-row 𝓤 H A (sender 𝓤 H A W) (numbered 𝓤 H A W) (object 𝓤 H A W) (numbering 𝓤 H A W) (λ s o. fact 𝓤 (Valid s)) (λ s o t r. AddsLent o s t r) W 𝓣 #called
+meets 𝓤 H A W at-mem run 𝓣 = answers₁ T.the-row N.the-row NG.the-row O.the-row 𝓤 H A (sender 𝓤 H A W) (numbered 𝓤 H A W) (object 𝓤 H A W) (numbering 𝓤 H A W) (λ s o. fact 𝓤 (ValidSender s)) (λ s o t r. AddsLent o s t r) W 𝓣 #called
 
 pub sd-add-spec : {M : Type 1} → stated.statement M
 unfolding code.routine tablesOf

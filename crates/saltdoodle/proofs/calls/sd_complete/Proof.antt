@@ -14,7 +14,7 @@ use denote.Triple.Statement.{Triple}
 use denote.Triple.Spec.{Meets, tripleOf}
 use denote.Triple.Table.{entered, cited}
 use mir.Syntax.{named, mut, tyRef}
-use Rattle.sender.specs.SenderCalls.{Valid, Completes}
+use Rattle.sender.specs.SenderCalls.{ValidSender, Completes}
 use Rattle.sender.proofs.sender.Sender as T
 use Rattle.lending.proofs.Whole.{done₀, done₀-fn, done₀-clauses}
 use Rattle.saltdoodle.proofs.Rows.{sender}
@@ -31,12 +31,12 @@ use Rattle.saltdoodle.proofs.calls.sd_complete.Code as code
 code-is : code.function ≡ done₀-fn (tyRef (named 0) mut (pointee (T.the-row .written))) (lone (T.the-row .mir)) #called
 code-is = refl
 
-clauses-are : {M : Type 1} (𝓤 : URA M) (H : Heap 𝓤) (A : Atoms 𝓤) (W : Given 𝓤 H A) (at-mem : Memory → SProp 𝓤) (run : Routine → Fun 𝓤) → f.clauses 𝓤 H A at-mem run ≡ done₀-clauses T.the-row 𝓤 H A (sender 𝓤 H A W) (λ s. fact 𝓤 (Valid s)) (λ s t. Completes s t)
+clauses-are : {M : Type 1} (𝓤 : URA M) (H : Heap 𝓤) (A : Atoms 𝓤) (W : Given 𝓤 H A) (at-mem : Memory → SProp 𝓤) (run : Routine → Fun 𝓤) → f.clauses 𝓤 H A at-mem run ≡ done₀-clauses T.the-row 𝓤 H A (sender 𝓤 H A W) (λ s. fact 𝓤 (ValidSender s)) (λ s t. Completes s t)
 clauses-are 𝓤 H A W at-mem run = refl
 
 meets : {M : Type 1} (𝓤 : URA M) (H : Heap 𝓤) (A : Atoms 𝓤) (W : Given 𝓤 H A) (at-mem : Memory → SProp 𝓤) (run : Routine → Fun 𝓤) (𝓣 : Tables 𝓤 H)
     → Triple 𝓤 (𝓣 .C #called) (tripleOf 𝓤 H A nx.signature (nx.spec 𝓤 H A at-mem run)) → Meets 𝓤 H A f.signature (WpFn 𝓤 H (𝓣 .C) (𝓣 .Λ) code.function) (f.spec 𝓤 H A at-mem run)
-meets 𝓤 H A W at-mem run 𝓣 = done₀ T.the-row 𝓤 H A (sender 𝓤 H A W) (λ s. fact 𝓤 (Valid s)) (λ s t. Completes s t) W 𝓣 #called
+meets 𝓤 H A W at-mem run 𝓣 = done₀ T.the-row 𝓤 H A (sender 𝓤 H A W) (λ s. fact 𝓤 (ValidSender s)) (λ s t. Completes s t) W 𝓣 #called
 
 pub sd-complete-spec : {M : Type 1} → stated.statement M
 unfolding code.routine tablesOf

@@ -15,7 +15,7 @@ use denote.Triple.Spec.{Meets, tripleOf}
 use denote.Triple.Table.{entered, cited}
 use mir.Syntax.{named, imm, tyRef, w64}
 use denote.Builtin.{u64, bool}
-use Rattle.sender.specs.SenderCalls.{Valid, Lists}
+use Rattle.sender.specs.SenderCalls.{ValidSender, Lists}
 use Rattle.sender.proofs.sender.Sender as T
 use Rattle.lending.proofs.Whole.{reads₁, reads₁-fn, reads₁-clauses, uint-data}
 use Rattle.saltdoodle.proofs.Rows.{sender, sender-copy, truth}
@@ -32,12 +32,12 @@ use Rattle.saltdoodle.proofs.calls.sd_listed.Code as code
 code-is : code.function ≡ reads₁-fn (tyRef (named 0) imm (pointee (T.the-row .written))) (lone (T.the-row .mir)) (lone (bool .mir)) (lone (u64 .mir)) #called
 code-is = refl
 
-clauses-are : {M : Type 1} (𝓤 : URA M) (H : Heap 𝓤) (A : Atoms 𝓤) (W : Given 𝓤 H A) (at-mem : Memory → SProp 𝓤) (run : Routine → Fun 𝓤) → f.clauses 𝓤 H A at-mem run ≡ reads₁-clauses T.the-row bool u64 𝓤 H A (sender 𝓤 H A W) (sender-copy 𝓤 H A W) (truth 𝓤 H A W) (uint-data 𝓤 H A W w64) (λ s toi. fact 𝓤 (Valid s)) (λ s toi r. Lists toi s r)
+clauses-are : {M : Type 1} (𝓤 : URA M) (H : Heap 𝓤) (A : Atoms 𝓤) (W : Given 𝓤 H A) (at-mem : Memory → SProp 𝓤) (run : Routine → Fun 𝓤) → f.clauses 𝓤 H A at-mem run ≡ reads₁-clauses T.the-row bool u64 𝓤 H A (sender 𝓤 H A W) (sender-copy 𝓤 H A W) (truth 𝓤 H A W) (uint-data 𝓤 H A W w64) (λ s toi. fact 𝓤 (ValidSender s)) (λ s toi r. Lists toi s r)
 clauses-are 𝓤 H A W at-mem run = refl
 
 meets : {M : Type 1} (𝓤 : URA M) (H : Heap 𝓤) (A : Atoms 𝓤) (W : Given 𝓤 H A) (at-mem : Memory → SProp 𝓤) (run : Routine → Fun 𝓤) (𝓣 : Tables 𝓤 H)
     → Triple 𝓤 (𝓣 .C #called) (tripleOf 𝓤 H A nx.signature (nx.spec 𝓤 H A at-mem run)) → Meets 𝓤 H A f.signature (WpFn 𝓤 H (𝓣 .C) (𝓣 .Λ) code.function) (f.spec 𝓤 H A at-mem run)
-meets 𝓤 H A W at-mem run 𝓣 = reads₁ T.the-row bool u64 𝓤 H A (sender 𝓤 H A W) (sender-copy 𝓤 H A W) (truth 𝓤 H A W) (uint-data 𝓤 H A W w64) (λ s toi. fact 𝓤 (Valid s)) (λ s toi r. Lists toi s r) W 𝓣 #called
+meets 𝓤 H A W at-mem run 𝓣 = reads₁ T.the-row bool u64 𝓤 H A (sender 𝓤 H A W) (sender-copy 𝓤 H A W) (truth 𝓤 H A W) (uint-data 𝓤 H A W w64) (λ s toi. fact 𝓤 (ValidSender s)) (λ s toi r. Lists toi s r) W 𝓣 #called
 
 pub sd-listed-spec : {M : Type 1} → stated.statement M
 unfolding code.routine tablesOf

@@ -46,7 +46,7 @@ use borrow.Table.Elements.{at-mul}
 use Rattle.lifecycle.specs.Slots.{no-slot, slot-at}
 use Rattle.lifecycle.specs.declared.slots.Slot.{Slot}
 use Rattle.sender.specs.SessionCalls.{idle-of}
-use Rattle.sender.specs.SenderCalls.{Valid, with-session}
+use Rattle.sender.specs.SenderCalls.{ValidSender, with-session}
 use Rattle.sender.specs.declared.sender.Sender.{Sender}
 use Rattle.sender.specs.declared.sendersession.SenderSession.{SenderSession}
 use Rattle.host_structs.specs.declared.answers.Sent.{Sent}
@@ -210,7 +210,7 @@ module _ {M : Type 1} (𝓤 : URA M) (H : Heap 𝓤) (A : Atoms 𝓤) (at-mem : 
   said-look : (h : Sender) (n m : ℕ) (r : Numbers) → ent 𝓤 (ensured 𝓤 H A lk.ended (lk.clauses 𝓤 H A at-mem run) tt (step-args h n m) tt r) (fact 𝓤 (looked h n m r))
   said-look h n m r = exE 𝓤 _ (λ ws. snd∗ 𝓤 (sem 𝓤 H A (lasts lk.ended tt (step-args h n m) ws)) (fact 𝓤 (looked h n m r)))
 
-module _ {M : Type 1} (𝓤 : URA M) (H : Heap 𝓤) (A : Atoms 𝓤) (W : Given 𝓤 H A) (at-mem : Memory → SProp 𝓤) (run : Routine → Fun 𝓤) (κ : Lft) (q : Share) (b o : ℕ) (γ : GName) (h : Sender) (n m : ℕ) (n-fits : n < 2 ^ 64) (m-fits : m < 2 ^ 64) (ok : Valid h) where
+module _ {M : Type 1} (𝓤 : URA M) (H : Heap 𝓤) (A : Atoms 𝓤) (W : Given 𝓤 H A) (at-mem : Memory → SProp 𝓤) (run : Routine → Fun 𝓤) (κ : Lft) (q : Share) (b o : ℕ) (γ : GName) (h : Sender) (n m : ℕ) (n-fits : n < 2 ^ 64) (m-fits : m < 2 ^ 64) (ok : ValidSender h) where
   abbrev x : RefT Sender × (ℕ × (ℕ × Unit {0}))
   x = (record { ptr = (b, o); name = γ; now = h }, (n, (m, tt)))
 
@@ -417,7 +417,7 @@ module _ {M : Type 1} (𝓤 : URA M) (H : Heap 𝓤) (A : Atoms 𝓤) (W : Given
   walks : (C : Calls 𝓤 H) (Λ : Loops 𝓤 H) → FmC 𝓤 H (W .laws) C → Triple 𝓤 (C #ran) (Next 𝓤 H A at-mem run) → Triple 𝓤 (C #settle) (Step 𝓤 H A at-mem run) → Triple 𝓤 (C #glance) (Look 𝓤 H A at-mem run)
       → Walks 𝓤 H A f.ended stayed (WpFn 𝓤 H C Λ code.function) (f.clauses 𝓤 H A at-mem run)
   walks C Λ fm known-run known-step known-look = walked 𝓤 H A f.ended stayed (f.clauses 𝓤 H A at-mem run) (WpFn 𝓤 H C Λ code.function) (λ κs. (ptr-vals, (uint-vals w64, (uint-vals w64, tt)))) (λ κs. (mut-tells (named 0) (κs .0) T.the-row, (uint-tells w64, (uint-tells w64, tt))))
-      (λ κs qs bounds a _ are. needs 𝓤 (Valid (a .0 .now)) _ (λ ok. walk 𝓤 H A W at-mem run (κs .0) (qs .0) (a .0 .ptr .0) (a .0 .ptr .1) (a .0 .name) (a .0 .now) (a .1 .0) (a .1 .1 .0) (are .1 .0 .1) (are .1 .1 .0 .1) ok C Λ fm known-run known-step known-look))
+      (λ κs qs bounds a _ are. needs 𝓤 (ValidSender (a .0 .now)) _ (λ ok. walk 𝓤 H A W at-mem run (κs .0) (qs .0) (a .0 .ptr .0) (a .0 .ptr .1) (a .0 .name) (a .0 .now) (a .1 .0) (a .1 .1 .0) (are .1 .0 .1) (are .1 .1 .0 .1) ok C Λ fm known-run known-step known-look))
 
   goes : AllGo 𝓤 H A W 1 (f.signature .params) (f.ended .kept) stayed
   goes = (goes-ref 𝓤 H A W 1 0 tt (plain (λ _. T.the-row)), (goes-none 𝓤 H A W 1 (λ _. u64) yes (λ κs x f. refl), (goes-none 𝓤 H A W 1 (λ _. u64) yes (λ κs x f. refl), tt)))

@@ -15,7 +15,7 @@ use denote.Triple.Spec.{Meets, tripleOf}
 use denote.Triple.Table.{entered, cited}
 use mir.Syntax.{named, imm, tyRef, w64}
 use denote.Builtin.{u64}
-use Rattle.sender.specs.SenderCalls.{Valid}
+use Rattle.sender.specs.SenderCalls.{ValidSender}
 use Rattle.saltdoodle.specs.Lent.{TotalsTold}
 use Rattle.sender.proofs.sender.Sender as T
 use Rattle.host_structs.proofs.answers.Counted as Q
@@ -34,12 +34,12 @@ use Rattle.saltdoodle.proofs.calls.sd_transfers.Code as code
 code-is : code.function ≡ reads₁-fn (tyRef (named 0) imm (pointee (T.the-row .written))) (lone (T.the-row .mir)) (lone (Q.the-row .mir)) (lone (u64 .mir)) #called
 code-is = refl
 
-clauses-are : {M : Type 1} (𝓤 : URA M) (H : Heap 𝓤) (A : Atoms 𝓤) (W : Given 𝓤 H A) (at-mem : Memory → SProp 𝓤) (run : Routine → Fun 𝓤) → f.clauses 𝓤 H A at-mem run ≡ reads₁-clauses T.the-row Q.the-row u64 𝓤 H A (sender 𝓤 H A W) (sender-copy 𝓤 H A W) (counted 𝓤 H A W) (uint-data 𝓤 H A W w64) (λ s toi. fact 𝓤 (Valid s)) (λ s toi r. TotalsTold toi s r)
+clauses-are : {M : Type 1} (𝓤 : URA M) (H : Heap 𝓤) (A : Atoms 𝓤) (W : Given 𝓤 H A) (at-mem : Memory → SProp 𝓤) (run : Routine → Fun 𝓤) → f.clauses 𝓤 H A at-mem run ≡ reads₁-clauses T.the-row Q.the-row u64 𝓤 H A (sender 𝓤 H A W) (sender-copy 𝓤 H A W) (counted 𝓤 H A W) (uint-data 𝓤 H A W w64) (λ s toi. fact 𝓤 (ValidSender s)) (λ s toi r. TotalsTold toi s r)
 clauses-are 𝓤 H A W at-mem run = refl
 
 meets : {M : Type 1} (𝓤 : URA M) (H : Heap 𝓤) (A : Atoms 𝓤) (W : Given 𝓤 H A) (at-mem : Memory → SProp 𝓤) (run : Routine → Fun 𝓤) (𝓣 : Tables 𝓤 H)
     → Triple 𝓤 (𝓣 .C #called) (tripleOf 𝓤 H A nx.signature (nx.spec 𝓤 H A at-mem run)) → Meets 𝓤 H A f.signature (WpFn 𝓤 H (𝓣 .C) (𝓣 .Λ) code.function) (f.spec 𝓤 H A at-mem run)
-meets 𝓤 H A W at-mem run 𝓣 = reads₁ T.the-row Q.the-row u64 𝓤 H A (sender 𝓤 H A W) (sender-copy 𝓤 H A W) (counted 𝓤 H A W) (uint-data 𝓤 H A W w64) (λ s toi. fact 𝓤 (Valid s)) (λ s toi r. TotalsTold toi s r) W 𝓣 #called
+meets 𝓤 H A W at-mem run 𝓣 = reads₁ T.the-row Q.the-row u64 𝓤 H A (sender 𝓤 H A W) (sender-copy 𝓤 H A W) (counted 𝓤 H A W) (uint-data 𝓤 H A W w64) (λ s toi. fact 𝓤 (ValidSender s)) (λ s toi r. TotalsTold toi s r) W 𝓣 #called
 
 pub sd-transfers-spec : {M : Type 1} → stated.statement M
 unfolding code.routine tablesOf

@@ -15,9 +15,9 @@ use denote.Triple.Spec.{Meets, tripleOf}
 use denote.Triple.Table.{entered, cited}
 use mir.Syntax.{named, mut, tyRef, w64}
 use denote.Builtin.{u64, bool}
-use Rattle.sender.specs.SenderCalls.{Valid, Prompts}
+use Rattle.sender.specs.SenderCalls.{ValidSender, Prompts}
 use Rattle.sender.proofs.sender.Sender as T
-use Rattle.sender.proofs.sender.Telling as TG
+use Rattle.sender.proofs.sender.Touching as TG
 use Rattle.lifecycle.proofs.filedesc.Time as I
 use Rattle.lending.proofs.Whole.{answers₂, answers₂-fn, answers₂-clauses, uint-data}
 use Rattle.saltdoodle.proofs.Rows.{sender, truth, time, telling}
@@ -34,12 +34,12 @@ use Rattle.saltdoodle.proofs.calls.sd_trigger.Code as code
 code-is : code.function ≡ answers₂-fn (tyRef (named 0) mut (pointee (T.the-row .written))) (lone (T.the-row .mir)) (lone (TG.the-row .mir)) (lone (bool .mir)) (lone (u64 .mir)) (lone (I.the-row .mir)) #called
 code-is = refl
 
-clauses-are : {M : Type 1} (𝓤 : URA M) (H : Heap 𝓤) (A : Atoms 𝓤) (W : Given 𝓤 H A) (at-mem : Memory → SProp 𝓤) (run : Routine → Fun 𝓤) → f.clauses 𝓤 H A at-mem run ≡ answers₂-clauses T.the-row bool TG.the-row u64 I.the-row 𝓤 H A (sender 𝓤 H A W) (truth 𝓤 H A W) (uint-data 𝓤 H A W w64) (time 𝓤 H A W) (telling 𝓤 H A W) (λ s toi start. fact 𝓤 (Valid s)) (λ s toi start t r. Prompts toi start s (record { yes = r; sender = t }))
+clauses-are : {M : Type 1} (𝓤 : URA M) (H : Heap 𝓤) (A : Atoms 𝓤) (W : Given 𝓤 H A) (at-mem : Memory → SProp 𝓤) (run : Routine → Fun 𝓤) → f.clauses 𝓤 H A at-mem run ≡ answers₂-clauses T.the-row bool TG.the-row u64 I.the-row 𝓤 H A (sender 𝓤 H A W) (truth 𝓤 H A W) (uint-data 𝓤 H A W w64) (time 𝓤 H A W) (telling 𝓤 H A W) (λ s toi start. fact 𝓤 (ValidSender s)) (λ s toi start t r. Prompts toi start s (record { yes = r; sender = t }))
 clauses-are 𝓤 H A W at-mem run = refl
 
 meets : {M : Type 1} (𝓤 : URA M) (H : Heap 𝓤) (A : Atoms 𝓤) (W : Given 𝓤 H A) (at-mem : Memory → SProp 𝓤) (run : Routine → Fun 𝓤) (𝓣 : Tables 𝓤 H)
     → Triple 𝓤 (𝓣 .C #called) (tripleOf 𝓤 H A nx.signature (nx.spec 𝓤 H A at-mem run)) → Meets 𝓤 H A f.signature (WpFn 𝓤 H (𝓣 .C) (𝓣 .Λ) code.function) (f.spec 𝓤 H A at-mem run)
-meets 𝓤 H A W at-mem run 𝓣 = answers₂ T.the-row bool TG.the-row u64 I.the-row 𝓤 H A (sender 𝓤 H A W) (truth 𝓤 H A W) (uint-data 𝓤 H A W w64) (time 𝓤 H A W) (telling 𝓤 H A W) (λ s toi start. fact 𝓤 (Valid s)) (λ s toi start t r. Prompts toi start s (record { yes = r; sender = t })) W 𝓣 #called
+meets 𝓤 H A W at-mem run 𝓣 = answers₂ T.the-row bool TG.the-row u64 I.the-row 𝓤 H A (sender 𝓤 H A W) (truth 𝓤 H A W) (uint-data 𝓤 H A W w64) (time 𝓤 H A W) (telling 𝓤 H A W) (λ s toi start. fact 𝓤 (ValidSender s)) (λ s toi start t r. Prompts toi start s (record { yes = r; sender = t })) W 𝓣 #called
 
 pub sd-trigger-spec : {M : Type 1} → stated.statement M
 unfolding code.routine tablesOf

@@ -37,7 +37,7 @@ let-go-requires-2 c κs = search needs
 
 returns-4 : tie.Need-returns-4
 returns-4 c = let a = c .before .before .before .before .before .before .before .before .before .before .before .args in
-    let x = sym (ap (λ (d : FileDesc). expired (plan-of (d .rule)) (life-of (d .life))) (c .before .before .before .transfer-done .ensures)) ∙ sym (c .before .before .is-expired .ensures) ∙ c .before .if4 .taken in
+    let x = sym (ap (λ (d : FileDesc). expired (plan-of (d .plan)) (life-of (d .life))) (c .before .before .before .transfer-done .ensures)) ∙ sym (c .before .before .is-expired .ensures) ∙ c .before .if4 .taken in
     c .let-go2 .ensures ∙ sym (done-expired (a .now) (a .k) (a .self) (not-false _ (c .before .before .before .before .before .before .if2 .left)) (not-false _ (c .before .before .before .before .if3 .left)) x)
 
 back-requires : tie.Need-back-requires
@@ -48,7 +48,7 @@ back-requires c κs = let s = c .before .before .before .before .before .before 
 
 returns-5 : tie.Need-returns-5
 returns-5 c = let a = c .before .before .before .before .before .before .before .before .before .before .before .args in
-    let x = sym (ap (λ (d : FileDesc). expired (plan-of (d .rule)) (life-of (d .life))) (c .before .before .before .transfer-done .ensures)) ∙ sym (c .before .before .is-expired .ensures) ∙ c .before .if4 .left in
+    let x = sym (ap (λ (d : FileDesc). expired (plan-of (d .plan)) (life-of (d .life))) (c .before .before .before .transfer-done .ensures)) ∙ sym (c .before .before .is-expired .ensures) ∙ c .before .if4 .left in
     c .back .ensures ∙ sym (done-back (a .now) (a .k) (a .self) (not-false _ (c .before .before .before .before .before .before .if2 .left)) (not-false _ (c .before .before .before .before .if3 .left)) x)
 
 pub transfer-done-spec : {M : Type 1} → statement M

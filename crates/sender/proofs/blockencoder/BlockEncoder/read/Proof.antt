@@ -1,5 +1,5 @@
 use mathlib.Core.Bool.{false}
-use Rattle.sender.specs.EncoderCalls.{Valid, Reads, ready-of, stuck, stopping-of, visit-of, moved-of, emptied-of}
+use Rattle.sender.specs.EncoderCalls.{ValidEncoder, Reads, ready-of, stuck, stopping-of, visit-of, moved-of, emptied-of}
 use Rattle.sender.specs.declared.blockencoder.Emitted.the-variants.{One}
 use Rattle.sender.specs.declared.blockencoder.BlockEncoder.{BlockEncoder}
 use Rattle.sender.specs.declared.blockencoder.Visit.{Visit}
@@ -44,7 +44,7 @@ visit-requires c κs =
     let y = stopping-of f x in
     let v = valid-flags x (s .pre) (x .begun) f in
     let e = sym (c .before .before .ready .ensures) in
-    (subst Valid e (valid-ready y v), omega arith, subst (λ z. stuck z ≡ false) e (ready-free y v))
+    (subst ValidEncoder e (valid-ready y v), omega arith, subst (λ z. stuck z ≡ false) e (ready-free y v))
 
 moved-on-requires : tie.Need-moved-on-requires
 moved-on-requires c κs =
@@ -54,7 +54,7 @@ moved-on-requires c κs =
     let y = stopping-of f x in
     let v = valid-flags x (s .pre) (x .begun) f in
     let e = sym (c .before .before .before .before .ready .ensures) in
-    let u = subst Valid e (valid-ready y v) in
+    let u = subst ValidEncoder e (valid-ready y v) in
     let r = c .before .before .before .before .ready .result in
     let h = visit-fits f r u (let n = c .before .before .if2 .left in omega arith) (subst (λ z. stuck z ≡ false) e (ready-free y v)) in
     let w = c .before .visit .ensures in

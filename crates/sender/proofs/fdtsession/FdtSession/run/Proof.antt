@@ -1,6 +1,6 @@
 use mathlib.Core.Logic.{⊎-elim}
 use denote.Enum.Declared.{tagOf}
-use Rattle.sender.proofs.sendersession.Served.{the-type}
+use Rattle.sender.proofs.sendersession.Outcome.{the-type}
 use Rattle.sender.proofs.FdtSessionLaws.{round-tries, ran-over, ran-once}
 use mathlib.Core.Path.{ap}
 use native.Mathlib.Omega.{arith}

@@ -1,8 +1,8 @@
 use mathlib.Core.Path.{_≡_, refl}
 use borrow.Author.Needs.{needs}
 use Rattle.sender.specs.SessionCalls.{attended-of, ran-by}
-use Rattle.sender.specs.declared.sendersession.Served.{Served}
-use Rattle.sender.specs.declared.sendersession.Ran.{Ran}
+use Rattle.sender.specs.declared.sendersession.Outcome.{Outcome}
+use Rattle.sender.specs.declared.sendersession.Turn.{Turn}
 use Rattle.sender.proofs.SessionLaws.{not-over}
 use Rattle.sender.proofs.sendersession.SenderSession.attend.Statement.{statement}
 use Rattle.sender.proofs.sendersession.SenderSession.attend.Tie as tie
@@ -41,7 +41,7 @@ returns-2 c =
     let a = b .before .before .before .before .args in
     let r = b .serve .result in
     rw (← b .before .before .before .slot-at .ensures, ← b .before .before .is-forced .ensures, ← b .before .need-transfer-fdt .ensures, ← b .serve .ensures)
-    (not-over (λ (z : Served). _≡_ {A = Ran} (record { answer = z; fdt = a .fdt; session = r .session }) (ran-by (a .now) (a .fdt) (a .self) (r .session) z)) (r .answer) (c .before .match .keys2) refl (λ y. refl))
+    (not-over (λ (z : Outcome). _≡_ {A = Turn} (record { answer = z; fdt = a .fdt; session = r .session }) (ran-by (a .now) (a .fdt) (a .self) (r .session) z)) (r .answer) (c .before .match .keys2) refl (λ y. refl))
 
 pub attend-spec : {M : Type 1} → statement M
 attend-spec =

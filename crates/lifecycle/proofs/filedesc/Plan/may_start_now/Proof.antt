@@ -3,8 +3,8 @@ use borrow.Author.Needs.{needs}
 use borrow.Author.Tests.{not-true, not-false}
 use Rattle.lifecycle.specs.Lifecycle.{may-start}
 use Rattle.lifecycle.proofs.FileDescLaws.{start-said}
-use Rattle.lifecycle.proofs.filedesc.Rule.may_start_now.Statement.{statement}
-use Rattle.lifecycle.proofs.filedesc.Rule.may_start_now.Tie as tie
+use Rattle.lifecycle.proofs.filedesc.Plan.may_start_now.Statement.{statement}
+use Rattle.lifecycle.proofs.filedesc.Plan.may_start_now.Tie as tie
 
 returns : tie.Need-returns
 unfolding may-start

@@ -2,8 +2,8 @@ use native.Mathlib.Omega.{arith}
 use borrow.Author.Needs.{needs}
 use Rattle.lifecycle.specs.Lifecycle.{is-last}
 use Rattle.lifecycle.proofs.FileDescLaws.{last-said, last-none}
-use Rattle.lifecycle.proofs.filedesc.Rule.is_last_transfer.Statement.{statement}
-use Rattle.lifecycle.proofs.filedesc.Rule.is_last_transfer.Tie as tie
+use Rattle.lifecycle.proofs.filedesc.Plan.is_last_transfer.Statement.{statement}
+use Rattle.lifecycle.proofs.filedesc.Plan.is_last_transfer.Tie as tie
 
 returns : tie.Need-returns
 unfolding is-last

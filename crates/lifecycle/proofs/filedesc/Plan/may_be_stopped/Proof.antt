@@ -1,6 +1,6 @@
 use Rattle.lifecycle.specs.Lifecycle.{may-stop}
-use Rattle.lifecycle.proofs.filedesc.Rule.may_be_stopped.Statement.{statement}
-use Rattle.lifecycle.proofs.filedesc.Rule.may_be_stopped.Tie as tie
+use Rattle.lifecycle.proofs.filedesc.Plan.may_be_stopped.Statement.{statement}
+use Rattle.lifecycle.proofs.filedesc.Plan.may_be_stopped.Tie as tie
 
 returns : tie.Need-returns
 unfolding may-stop

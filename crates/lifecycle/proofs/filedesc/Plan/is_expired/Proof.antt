@@ -2,8 +2,8 @@ use mathlib.Core.Path.{sym}
 use borrow.Author.Tests.{le-leb, lt-leb}
 use Rattle.lifecycle.specs.Lifecycle.{expired}
 use Rattle.lifecycle.proofs.FileDescLaws.{repeats-said}
-use Rattle.lifecycle.proofs.filedesc.Rule.is_expired.Statement.{statement}
-use Rattle.lifecycle.proofs.filedesc.Rule.is_expired.Tie as tie
+use Rattle.lifecycle.proofs.filedesc.Plan.is_expired.Statement.{statement}
+use Rattle.lifecycle.proofs.filedesc.Plan.is_expired.Tie as tie
 
 returns : tie.Need-returns
 unfolding expired

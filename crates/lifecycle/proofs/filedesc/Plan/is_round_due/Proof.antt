@@ -3,8 +3,8 @@ use borrow.Author.Needs.{needs}
 use borrow.Author.Tests.{not-true, not-false}
 use Rattle.lifecycle.specs.Lifecycle.{round-due}
 use lib.Dec.{ltb}
-use Rattle.lifecycle.proofs.filedesc.Rule.is_round_due.Statement.{statement}
-use Rattle.lifecycle.proofs.filedesc.Rule.is_round_due.Tie as tie
+use Rattle.lifecycle.proofs.filedesc.Plan.is_round_due.Statement.{statement}
+use Rattle.lifecycle.proofs.filedesc.Plan.is_round_due.Tie as tie
 
 returns : tie.Need-returns
 unfolding round-due

@@ -2,8 +2,8 @@ use borrow.Author.Needs.{needs}
 use borrow.Author.Tests.{not-true, not-false}
 use Rattle.lifecycle.specs.Lifecycle.{tick-of}
 use Rattle.lifecycle.specs.FileDesc.{pace-at}
-use Rattle.lifecycle.proofs.filedesc.Rule.pace.Statement.{statement}
-use Rattle.lifecycle.proofs.filedesc.Rule.pace.Tie as tie
+use Rattle.lifecycle.proofs.filedesc.Plan.pace.Statement.{statement}
+use Rattle.lifecycle.proofs.filedesc.Plan.pace.Tie as tie
 
 none-requires : tie.Need-none-requires
 none-requires c κs = search needs

@@ -1,7 +1,7 @@
 use borrow.Author.Needs.{needs}
 use Rattle.lifecycle.specs.FileDesc.{with-carousel}
-use Rattle.lifecycle.proofs.filedesc.Rule.with_carousel.Statement.{statement}
-use Rattle.lifecycle.proofs.filedesc.Rule.with_carousel.Tie as tie
+use Rattle.lifecycle.proofs.filedesc.Plan.with_carousel.Statement.{statement}
+use Rattle.lifecycle.proofs.filedesc.Plan.with_carousel.Tie as tie
 
 enum-told : tie.Need-enum-told
 enum-told c = search needs
