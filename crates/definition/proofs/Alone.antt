@@ -8,15 +8,15 @@ use native.Mathlib.Omega.{arith}
 use lib.Dec.{eqb, leb}
 use borrow.Author.Tests.{eqb-true, eq-eqb, ne-eqb, leb-false, lt-leb}
 use lib.ListN.{length}
-use Rattle.sizes.specs.Words.{if_then_else_, maybe, given, any, at, first-of, over, Each}
+use Rattle.sizes.specs.Words.{if_then_else_, maybe, given, any, at, over, Each}
 use Rattle.sizes.specs.declared.refusal.Refusal.{Refusal}
 use Rattle.sizes.specs.declared.refusal.Refusal.the-variants as Because
 use Rattle.sizes.specs.Limits.{object-slots}
 use Rattle.lifecycle.specs.Parts.{shares, past-store}
 use Rattle.lifecycle.specs.declared.parts.Part.{Part}
-use Rattle.lifecycle.specs.Setup.{Setup, bad-blocks}
+use Rattle.lifecycle.specs.Setup.{Setup}
 use Rattle.definition.specs.Session.{Object, Hand, Session}
-use Rattle.definition.specs.Desk.{Desk, Request, Call, Answer, opening, in-hands, objects, is, reserved, toi-for, admitted, own-sizes, no-session, bad-object-part, not-loose, full, no-room, add-refusal, Result, unless, step}
+use Rattle.definition.specs.Desk.{Desk, Request, Call, Answer, opening, in-hands, objects, is, reserved, toi-for, admitted, bad-object-part, not-loose, full, no-room, add-refusal, Result, unless, step}
 use Rattle.definition.specs.Apart.{mine, owns, about, adding, number-in, got-after, key, call-by, answer-by, is-barred, turned-away}
 use Rattle.definition.proofs.Numbers.{Unique, unique-step, unique-opening, tois, admissible}
 use Rattle.definition.proofs.RefusalTables.{early-refusal, late-no, add-early, add-unreached}

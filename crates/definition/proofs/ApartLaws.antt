@@ -12,13 +12,11 @@ use Rattle.sizes.specs.Words.{if_then_else_, maybe, given, any, at, has, find, 
 use Rattle.sizes.specs.declared.refusal.Refusal.{Refusal}
 use Rattle.sizes.specs.declared.refusal.Refusal.the-variants as Because
 use Rattle.lifecycle.specs.declared.parts.Part.{Part}
-use Rattle.lifecycle.specs.Lifecycle.{triggered}
 use Rattle.lifecycle.specs.Setup.{Setup, bad-blocks}
-use Rattle.lifecycle.specs.Fdt.{Instance, next-fdt, fdt-done}
 use Rattle.definition.specs.FdtSession.{Fdt, FdtTurn, Packet, fdt-published, fdt-run, fdt-sent}
 use Rattle.definition.specs.Session.{Object, Hand, Session, Turn, file-run}
-use Rattle.definition.specs.Desk.{Desk, Request, Call, Answer, opening, in-hands, objects, numbers, is, listed-in-hands, listed-as, moved, numbered, with-fdt, in-hand, marked, marked-hand, all-published, reserved, toi-for, made, admitted, own-sizes, no-session, bad-object-part, not-loose, no-room, reserve-refusal, release-refusal, add-refusal, publish-refusal, draft-refusal, draft-of, Result, unless, ran, step, unloosed, fdt-queued, fdt-ran, Touch, Question, waiting-after, hand-after, touched-waiting, touched-hand, touched, answer-to}
-use Rattle.definition.specs.Apart.{mine, owns, about, got-after, key, call-by, packet-by, perhaps-by, answer-by, bars, is-barred, turned-away, calls, answers, smooth, Alike as AlikeRuns, PacketOf, NumberOf, OwnNumbers, about-question, question-by}
+use Rattle.definition.specs.Desk.{Desk, Request, Call, Answer, opening, in-hands, objects, numbers, is, listed-in-hands, listed-as, moved, numbered, with-fdt, in-hand, marked, marked-hand, all-published, reserved, toi-for, made, admitted, own-sizes, no-session, not-loose, reserve-refusal, release-refusal, add-refusal, publish-refusal, draft-refusal, draft-of, Result, unless, ran, step, unloosed, fdt-queued, fdt-ran, Touch, Question, waiting-after, hand-after, touched-waiting, touched-hand, touched, answer-to}
+use Rattle.definition.specs.Apart.{mine, owns, about, got-after, key, call-by, packet-by, answer-by, is-barred, turned-away, calls, answers, smooth, Alike as AlikeRuns, PacketOf, NumberOf, OwnNumbers, about-question, question-by}
 use Rattle.definition.proofs.Numbers.{Unique, unique-step, unique-opening, tois, admissible}
 use Rattle.definition.proofs.RefusalTables.{early-refusal, late-no, add-early}
 use Rattle.definition.proofs.View.{retag, retag-held, seen, see, seen-append, seen-mine, seen-other, Alike, seen-find, seen-map, see-turn, Sends, file-run-seen}

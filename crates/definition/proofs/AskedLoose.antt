@@ -4,7 +4,7 @@ use mathlib.Core.Bool.{Bool, true, false, not}
 use mathlib.Core.Option.{Option, none, some}
 use mathlib.Core.List.{List, [], _∷_, _++_, map}
 use Prim.Native.Nat.{ℕ}
-use Rattle.sizes.specs.Words.{maybe, given, keep, find, has, Each}
+use Rattle.sizes.specs.Words.{maybe, given, find, has, Each}
 use Rattle.sizes.proofs.Tests.{none≢some}
 use Rattle.sizes.proofs.Lists.{each-append, each-imp, each-left, each-right}
 use Rattle.lifecycle.specs.Setup.{Setup}

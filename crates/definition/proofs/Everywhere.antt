@@ -7,14 +7,14 @@ use Prim.Native.Nat.{ℕ, _≤_}
 use lib.Dec.{eqb, ltb}
 use borrow.Author.Tests.{ltb-false, not-false}
 use lib.ListN.{length}
-use Rattle.sizes.specs.Words.{if_then_else_, maybe, given, keep, at, find, drop-first, first-of}
+use Rattle.sizes.specs.Words.{if_then_else_, maybe, given, keep, at}
 use Rattle.sizes.specs.declared.refusal.Refusal.the-variants as Because
 use Rattle.sizes.specs.declared.refusal.Refusal.{Refusal}
 use Rattle.sizes.specs.Limits.{most-blocks}
 use Rattle.sizes.specs.Partition.{blocks-of}
 use Rattle.sizes.specs.declared.partition.Sizes.{Sizes}
 use Rattle.lifecycle.proofs.SetupLaws.{sizes-told}
-use Rattle.lifecycle.specs.Lifecycle.{Life, announced, triggered, too-early, expired, finished, started}
+use Rattle.lifecycle.specs.Lifecycle.{Life, announced, expired, finished, started}
 use Rattle.lifecycle.specs.Setup.{Setup, sound-sizes, bad-blocks}
 use Rattle.definition.specs.FdtSession.{Fdt, FdtTurn, fdt-published, fdt-run}
 use Rattle.definition.specs.Session.{Object, Hand, Session, living, startable, begin, put-back, Turn, sent, file-run}

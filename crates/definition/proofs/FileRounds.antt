@@ -4,7 +4,7 @@ use mathlib.Core.Bool.{Bool, true, false, true≢false}
 use mathlib.Core.Option.{Option, none, some}
 use mathlib.Core.List.{List}
 use Prim.Native.Nat.{ℕ, suc, _≤_}
-use Rattle.sizes.specs.Words.{if_then_else_, maybe, find, drop-first, Each}
+use Rattle.sizes.specs.Words.{if_then_else_, find, drop-first, Each}
 use Rattle.sizes.proofs.Lists.{each-find, each-at}
 use Rattle.lifecycle.specs.Lifecycle.{too-early}
 use Rattle.lifecycle.specs.Setup.{Setup}

@@ -1,6 +1,6 @@
 -- What sessions have in hand: at most a window of open blocks, and an object of the session's priority. The sessions stay those of the set-up.
 use mathlib.Core.Path.{_≡_, refl, ap, subst, sym, _∙_}
-use mathlib.Core.Bool.{Bool, true, false, not, _||_}
+use mathlib.Core.Bool.{Bool, not, _||_}
 use mathlib.Core.Option.{Option, none, some}
 use mathlib.Core.List.{List, [], _∷_, map}
 use Prim.Native.Nat.{ℕ, zero, suc, _-_, _≤_, min}
@@ -8,7 +8,7 @@ use native.Mathlib.Omega.{arith}
 use lib.Dec.{eqb}
 use borrow.Author.Tests.{eqb-true}
 use lib.ListN.{length, length-append, length-set}
-use Rattle.sizes.specs.Words.{if_then_else_, maybe, given, at, cut, find, drop-first, first-of, Each}
+use Rattle.sizes.specs.Words.{if_then_else_, maybe, given, at, cut, Each}
 use Rattle.sizes.specs.declared.refusal.Refusal.the-variants as Because
 use Rattle.sizes.specs.Partition.{blocks-of}
 use Rattle.sizes.specs.declared.partition.Sizes.{Sizes}
@@ -16,7 +16,7 @@ use Rattle.sizes.specs.declared.partition.Partition.{Partition}
 use Rattle.sizes.proofs.Tests.{and-left}
 use Rattle.sizes.proofs.Lists.{each-map, each-set, each-at, found, map-hidden, map-set-same, each-all}
 use Rattle.lifecycle.specs.declared.parts.Part.{Part}
-use Rattle.lifecycle.specs.Lifecycle.{may-start, too-early}
+use Rattle.lifecycle.specs.Lifecycle.{may-start}
 use Rattle.lifecycle.specs.Setup.{Setup}
 use Rattle.definition.specs.Encoder.{Open, Encoder, Symbol, opened, drained, fill, wrapped, emptied, without, advanced, symbol-of, visit, stopping, read}
 use Rattle.definition.specs.FdtSession.{fdt-published, fdt-run}

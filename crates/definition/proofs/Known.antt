@@ -7,10 +7,10 @@ use Prim.Native.Nat.{ℕ}
 use lib.Dec.{eqb}
 use borrow.Author.Tests.{eqb-true, eq-eqb}
 use lib.ListN.{length}
-use Rattle.sizes.specs.Words.{if_then_else_, maybe, given, keep, at, has, find, drop-first, first-of}
+use Rattle.sizes.specs.Words.{if_then_else_, maybe, given, keep, at, has, drop-first}
 use Rattle.sizes.specs.declared.refusal.Refusal.the-variants as Because
 use Rattle.sizes.specs.declared.refusal.Refusal.{Refusal}
-use Rattle.lifecycle.specs.Lifecycle.{triggered, too-early, expired, finished, may-start}
+use Rattle.lifecycle.specs.Lifecycle.{expired, finished, may-start}
 use Rattle.lifecycle.specs.Setup.{Setup}
 use Rattle.definition.specs.FdtSession.{Fdt, FdtTurn, Packet, fdt-published, fdt-run}
 use Rattle.definition.specs.Session.{Object, Hand, Session, living, startable, begin, put-back, Turn, sent, file-run}

@@ -1,6 +1,6 @@
 -- Object numbers: what a call does to those that are held, and so: none is given twice, all are in range, and their entries suffice.
 use mathlib.Core.Path.{_≡_, refl, sym, _∙_, ap, subst}
-use mathlib.Core.Bool.{Bool, true, false, not, _&&_, _||_, false≢true}
+use mathlib.Core.Bool.{true, false, not, _&&_, _||_, false≢true}
 use mathlib.Core.Option.{Option, none, some}
 use mathlib.Core.List.{List, [], _∷_, _++_, map}
 use Prim.Native.Nat.{ℕ, _+_, _≤_, _<_}
@@ -8,7 +8,7 @@ use native.Mathlib.Omega.{arith}
 use lib.Dec.{eqb, leb}
 use borrow.Author.Tests.{not-false, eqb-true, eq-eqb, leb-false}
 use lib.ListN.{length}
-use Rattle.sizes.specs.Words.{if_then_else_, maybe, given, keep, at, has, first-of, times, one-if}
+use Rattle.sizes.specs.Words.{if_then_else_, maybe, given, keep, at, has, times, one-if}
 use Rattle.sizes.specs.declared.refusal.Refusal.the-variants as Because
 use Rattle.sizes.specs.Limits.{toi-entries, object-slots}
 use Rattle.sizes.specs.Toi.{Toi, first-toi, next-toi}
@@ -19,7 +19,7 @@ use Rattle.lifecycle.specs.declared.parts.Part.{Part}
 use Rattle.lifecycle.specs.Setup.{Setup, bad-blocks}
 use Rattle.definition.specs.FdtSession.{fdt-run}
 use Rattle.definition.specs.Session.{Object, Session}
-use Rattle.definition.specs.Desk.{Desk, Request, Call, Answer, opening, objects, numbers, moved, numbered, with-fdt, all-published, reserved, unloosed, toi-for, own-sizes, made, admitted, no-session, bad-object-part, not-loose, full, no-room, reserve-refusal, release-refusal, add-refusal, publish-refusal, draft-refusal, draft-of, Result, ran, fdt-ran, step, touched}
+use Rattle.definition.specs.Desk.{Desk, Request, Call, Answer, opening, objects, numbers, moved, numbered, with-fdt, all-published, reserved, unloosed, toi-for, own-sizes, made, admitted, bad-object-part, not-loose, full, no-room, reserve-refusal, release-refusal, add-refusal, publish-refusal, draft-refusal, draft-of, Result, ran, fdt-ran, step, touched}
 use Rattle.definition.specs.Apart.{adding, number-in}
 use Rattle.definition.proofs.RefusalTables.{add-fails}
 use Rattle.definition.proofs.Refused.{plain, either, kept, settled}

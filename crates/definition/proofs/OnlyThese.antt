@@ -8,7 +8,7 @@ use native.Mathlib.Omega.{arith}
 use lib.Dec.{eqb, leb}
 use borrow.Author.Tests.{eqb-true, eqb-false, eq-eqb, ne-eqb, not-true, leb-false, lt-leb}
 use lib.ListN.{length, length-append}
-use Rattle.sizes.specs.Words.{if_then_else_, maybe, keep, at, has, first-of, Each, times, one-if}
+use Rattle.sizes.specs.Words.{if_then_else_, maybe, keep, at, has, Each, times, one-if}
 use Rattle.sizes.specs.declared.refusal.Refusal.the-variants as Because
 use Rattle.sizes.specs.declared.refusal.Refusal.{Refusal}
 use Rattle.lifecycle.specs.Setup.{Setup, sound}

@@ -1,16 +1,16 @@
 -- Parts that share no byte, by counting: no byte is in two of them. So the parts of a desk's objects stay apart, and inside the store.
-use mathlib.Core.Path.{_≡_, refl, _∙_, ap, subst}
+use mathlib.Core.Path.{_≡_, refl, _∙_, ap}
 use mathlib.Core.Bool.{Bool, false, _&&_}
-use mathlib.Core.Option.{Option, none, some}
+use mathlib.Core.Option.{Option, none}
 use mathlib.Core.List.{List, [], _∷_, map}
-use Prim.Native.Nat.{ℕ, zero, suc, _+_, _≤_, _<_, min, max}
+use Prim.Native.Nat.{ℕ, _+_, _≤_, _<_, min, max}
 use native.Mathlib.Omega.{arith}
 use lib.Dec.{ltb, leb}
 use borrow.Author.Tests.{ltb-true, ltb-false, leb-true, lt-ltb, le-leb}
-use Rattle.sizes.specs.Words.{any, at, one-if, Each}
+use Rattle.sizes.specs.Words.{any, one-if, Each}
 use Rattle.sizes.specs.Limits.{longest-store}
-use Rattle.sizes.proofs.Tests.{and-left, and-right, or-left, or-right, Tested, pass, fail, tested, none≢some}
-use Rattle.sizes.proofs.Lists.{any-map, each-at}
+use Rattle.sizes.proofs.Tests.{and-left, and-right, or-left, or-right, Tested, pass, fail, tested}
+use Rattle.sizes.proofs.Lists.{any-map}
 use Rattle.lifecycle.specs.Parts.{part-end, shares, past-store}
 use Rattle.lifecycle.specs.declared.parts.Part.{Part}
 use Rattle.lifecycle.specs.Setup.{Setup}

@@ -2,9 +2,7 @@
 use mathlib.Core.Path.{_≡_, refl, sym, _∙_}
 use mathlib.Core.Bool.{Bool, true, false, false≢true}
 use mathlib.Core.Option.{Option, none, some}
-use mathlib.Core.List.{[], _∷_}
-use Prim.Native.Nat.{ℕ}
-use Rattle.sizes.specs.Words.{if_then_else_, maybe, given, at, first-of}
+use Rattle.sizes.specs.Words.{if_then_else_, maybe, given, at}
 use Rattle.sizes.specs.declared.refusal.Refusal.the-variants as Because
 use Rattle.sizes.specs.declared.refusal.Refusal.{Refusal}
 use Rattle.definition.specs.Session.{Session}

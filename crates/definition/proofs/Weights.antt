@@ -7,10 +7,10 @@ use Prim.Native.Nat.{ℕ, zero, suc, _+_, _≤_}
 use native.Mathlib.Omega.{arith}
 use lib.Dec.{eqb}
 use lib.ListN.{length, set}
-use Rattle.sizes.specs.Words.{if_then_else_, maybe, given, keep, at, find, drop-first, first-of, times, one-if, collect}
+use Rattle.sizes.specs.Words.{if_then_else_, maybe, given, keep, at, find, drop-first, times, one-if, collect}
 use Rattle.sizes.specs.declared.refusal.Refusal.the-variants as Because
 use Rattle.sizes.proofs.Tests.{none≢some}
-use Rattle.lifecycle.specs.Lifecycle.{Life, announced, triggered, too-early, expired, finished, started}
+use Rattle.lifecycle.specs.Lifecycle.{Life, announced, expired, finished, started}
 use Rattle.lifecycle.specs.Setup.{Setup}
 use Rattle.definition.specs.FdtSession.{fdt-published, fdt-run}
 use Rattle.definition.specs.Session.{Object, Hand, Session, living, startable, begin, put-back, Turn, sent, file-run}

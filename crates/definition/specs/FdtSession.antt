@@ -2,7 +2,7 @@
 use mathlib.Core.Bool.{Bool, false, _||_}
 use mathlib.Core.Option.{Option, none, some}
 use Prim.Native.Nat.{ℕ}
-use Rattle.sizes.specs.Words.{if_then_else_, maybe, given}
+use Rattle.sizes.specs.Words.{if_then_else_, given}
 use Rattle.lifecycle.specs.declared.parts.Part.{Part}
 use Rattle.lifecycle.specs.Setup.{Setup}
 use Rattle.lifecycle.specs.Fdt.{FdtState, Instance, queued, next-fdt, fdt-done}

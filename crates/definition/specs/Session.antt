@@ -1,5 +1,5 @@
 -- Session: what a file session sends (src/sender/sendersession.rs). It owns the object that it has in hand; the queue owns the others.
-use mathlib.Core.Bool.{Bool, true, false, not, _&&_}
+use mathlib.Core.Bool.{Bool, true, not, _&&_}
 use mathlib.Core.Option.{Option, none, some}
 use mathlib.Core.List.{List, [], _∷_, _++_}
 use Prim.Native.Nat.{ℕ}

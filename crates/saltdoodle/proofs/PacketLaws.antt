@@ -9,7 +9,6 @@ use Rattle.sizes.specs.Words.{if_then_else_, maybe}
 use Rattle.sizes.specs.Refusals.{refusal-number}
 use Rattle.sizes.specs.declared.refusal.Refusal.the-variants as Because
 use Rattle.lifecycle.specs.Parts.{past-store}
-use Rattle.lifecycle.specs.declared.parts.Part.{Part}
 use Rattle.definition.specs.Payload.{Store, Stores, Place, no-place, bytes-of, store-of, place-of, payload-of}
 use Rattle.sender.specs.SenderCalls.{packet-said}
 use Rattle.sender.specs.declared.sender.RunAnswer.the-variants as RunV
