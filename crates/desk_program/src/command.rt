@@ -14,6 +14,7 @@ use record_program::WriteWords;
 use sender::sender::Object;
 use sender::setup::FdtCarousel;
 use sender::setup::Setup;
+use sizes::limits::MOST_SESSIONS;
 use sizes::numbers::Sbn;
 use sizes::partition::Sizes;
 use text::Field;
@@ -395,7 +396,7 @@ fn next_priorities(line: &[u8], from: usize, count: u64) -> Priorities {
         };
         if MOST_32 < value {
             fits = false;
-        } else if kept < 4 {
+        } else if kept < MOST_SESSIONS {
             p[kept] = value as u32;
             kept += 1;
         } else {

@@ -15,6 +15,7 @@ use sender::sender::Object;
 use sender::sender::Sender;
 use sender::setup::FdtCarousel;
 use sender::setup::Setup;
+use sizes::limits::MOST_SESSIONS;
 use sizes::numbers::Sbn;
 use sizes::partition::Sizes;
 use sizes::refusal::Refusal;
@@ -246,7 +247,7 @@ fn no_sessions() -> Setup {
         sizes: Sizes { e: 1, b: 1 },
         window: 1,
         count: 0,
-        priorities: [0; 4],
+        priorities: [0; MOST_SESSIONS],
         width: 16,
         first_toi: 1,
         first_fdt_id: 0,

@@ -12,9 +12,14 @@ use sender::blockencoder::BlockEncoder;
 use sender::blockencoder::Content;
 use sender::blockencoder::Emitted;
 use sender::blockencoder::Symbol;
+use sizes::limits::LARGEST_WINDOW;
+use sizes::limits::LONGEST_STORE;
 use sizes::numbers::Esi;
 use sizes::numbers::Sbn;
 use sizes::partition::Sizes;
+
+// The largest window, as a line names it.
+const LARGEST_NAMED_WINDOW: u64 = LARGEST_WINDOW as u64;
 
 // What a line says, or that the transfer is over.
 pub enum Line {
@@ -47,10 +52,10 @@ fn is_refused(l: u64, e: u64, b: u64, w: u64) -> bool
     if w == 0 {
         return true;
     }
-    if 16 < w {
+    if LARGEST_NAMED_WINDOW < w {
         return true;
     }
-    if 0x100_0000_0000 < l {
+    if LONGEST_STORE < l {
         return true;
     }
     are_bad_blocks(Sizes { e, b }, l)

@@ -11,6 +11,7 @@ use lifecycle::parts::Part;
 use sender::sender::Object;
 use sender::setup::FdtCarousel;
 use sender::setup::Setup;
+use sizes::limits::MOST_SESSIONS;
 use sizes::partition::Sizes;
 
 // An object to add: with its own E and B where `own`, under the reservation `toi` where `named`.
@@ -32,7 +33,7 @@ pub struct PlainSetup {
     pub sizes: Sizes,
     pub window: u64,
     pub count: u64,
-    pub priorities: [u32; 4],
+    pub priorities: [u32; MOST_SESSIONS],
     pub width: u64,
     pub first_toi: u64,
     pub first_fdt_id: u64,

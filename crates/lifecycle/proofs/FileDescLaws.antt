@@ -98,18 +98,18 @@ life-reset t x = ap (λ f. record { published = x .published; count = x .count; 
     start false = refl
 
 -- what is asked is what the inputs name
-pub plan-named : (most : ℕ) (c : Carousel) (t : Target) (stop : Bool)
+pub plan-as-named : (most : ℕ) (c : Carousel) (t : Target) (stop : Bool)
     → plan-of (plan-named most c t stop) ≡ record { most = most; carousel = carousel-named c; target = target-named t; stop-at-once = stop }
 unfolding plan-named with-carousel with-target
-plan-named most Never AtOnce stop = refl
-plan-named most Never (Within d) stop = refl
-plan-named most Never (By d) stop = refl
-plan-named most (Delay i) AtOnce stop = refl
-plan-named most (Delay i) (Within d) stop = refl
-plan-named most (Delay i) (By d) stop = refl
-plan-named most (Interval i) AtOnce stop = refl
-plan-named most (Interval i) (Within d) stop = refl
-plan-named most (Interval i) (By d) stop = refl
+plan-as-named most Never AtOnce stop = refl
+plan-as-named most Never (Within d) stop = refl
+plan-as-named most Never (By d) stop = refl
+plan-as-named most (Delay i) AtOnce stop = refl
+plan-as-named most (Delay i) (Within d) stop = refl
+plan-as-named most (Delay i) (By d) stop = refl
+plan-as-named most (Interval i) AtOnce stop = refl
+plan-as-named most (Interval i) (Within d) stop = refl
+plan-as-named most (Interval i) (By d) stop = refl
 
 -- the pace is the definition's
 pub pace-view : (r : Plan) (now l e : ℕ) → pace-said (pace-at r now l e) ≡ Def.pace-of (target-of r) now l e

@@ -19,6 +19,10 @@ use host_structs::inputs::PlainSetup;
 use lifecycle::filedesc::Time;
 use lifecycle::parts::Part;
 use sender::sender::Sender;
+use sizes::limits::MOST_SESSIONS;
+
+// How many file sessions there may be, as a session is named.
+const SESSIONS: u64 = MOST_SESSIONS as u64;
 
 // Fills the sender, where zeros may stand before; a refused set-up leaves what stood there.
 #[no_mangle]
@@ -116,7 +120,7 @@ pub extern "C" fn sd_run(s: &mut Sender, i: u64, at: u64) -> Sent
     requires { ⌜ ValidSender (now s) ⌝ }
     ensures { λ r. ⌜ RunsFileLent i at (now (s .entry)) (now (s .exit)) r ⌝ }
 {
-    if i < 4 {
+    if i < SESSIONS {
         let j = i as usize;
         let x = s.sessions[j];
         let k = x.slot;

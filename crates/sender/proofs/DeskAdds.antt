@@ -34,7 +34,7 @@ use Rattle.lifecycle.proofs.FdtViews.{at-each}
 use Rattle.lifecycle.proofs.FdtKeeps.{ObjectsOnly, added-keeps}
 use Rattle.lifecycle.proofs.FdtAdds.{added-view}
 use Rattle.lifecycle.proofs.FdtSent.{added-sent}
-use Rattle.lifecycle.proofs.FileDescLaws.{plan-named}
+use Rattle.lifecycle.proofs.FileDescLaws.{plan-as-named}
 use Rattle.definition.specs.Desk as Def
 use Rattle.sender.specs.SessionCalls.{Holds, object-of}
 use Rattle.sender.specs.FdtSessionCalls.{FdtHolds, fdt-hand-of}
@@ -67,7 +67,7 @@ made-view u s a o t =
       priority = o .priority;
       part = o .part;
       sizes = sym (own-view u (s .fdt .settings .sizes) (a .sizes) o) i;
-      plan = plan-named (o .most) (o .carousel) (o .target) (o .«stop_at_once») i;
+      plan = plan-as-named (o .most) (o .carousel) (o .target) (o .«stop_at_once») i;
       life = unborn false (time-of (o .start));
     }
 

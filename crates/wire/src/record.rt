@@ -10,6 +10,12 @@ ghost use Rattle.wire.specs.RecordWords.{first-fields, second-fields, th
 use sizes::numbers::Esi;
 use sizes::numbers::Sbn;
 
+// The largest values of fields of 16, 20 and 48 bits.
+const MOST_16: u32 = 0xFFFF;
+const MOST_16_OF_64: u64 = 0xFFFF;
+const MOST_20: u32 = 0xF_FFFF;
+const MOST_48: u64 = 0xFFFF_FFFF_FFFF;
+
 // What a record says of a packet. A value may be too wide for its field.
 pub struct Record {
     pub is_fdt: bool,
@@ -74,22 +80,22 @@ pub fn read(bytes: &[u8]) -> Reading
 fn is_good(r: Record) -> bool
     ensures { λ t. ⌜ t ≡ good r ⌝ }
 {
-    if 0xFFFFF < r.fdt_id {
+    if MOST_20 < r.fdt_id {
         return false;
     }
-    if 0xFFFF < r.block.0 {
+    if MOST_16 < r.block.0 {
         return false;
     }
-    if 0xFFFF < r.symbol.0 {
+    if MOST_16 < r.symbol.0 {
         return false;
     }
-    if 0xFFFF < r.length {
+    if MOST_16_OF_64 < r.length {
         return false;
     }
-    if 0xFFFF_FFFF_FFFF < r.total {
+    if MOST_48 < r.total {
         return false;
     }
-    if 0xFFFF < r.symbols {
+    if MOST_16_OF_64 < r.symbols {
         return false;
     }
     is_well_named(r)
