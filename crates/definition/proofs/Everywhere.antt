@@ -4,25 +4,19 @@ use mathlib.Core.Bool.{Bool, true, false, not, _&&_}
 use mathlib.Core.Option.{Option, none, some}
 use mathlib.Core.List.{List, [], _∷_, _++_, map}
 use Prim.Native.Nat.{ℕ, _≤_}
-use lib.Dec.{eqb, ltb}
-use borrow.Author.Tests.{ltb-false, not-false}
+use lib.Dec.{eqb}
 use lib.ListN.{length}
 use Rattle.sizes.specs.Words.{if_then_else_, maybe, given, keep, at}
 use Rattle.sizes.specs.declared.refusal.Refusal.the-variants as Because
 use Rattle.sizes.specs.declared.refusal.Refusal.{Refusal}
-use Rattle.sizes.specs.Limits.{most-blocks}
-use Rattle.sizes.specs.Partition.{blocks-of}
-use Rattle.sizes.specs.declared.partition.Sizes.{Sizes}
-use Rattle.lifecycle.proofs.SetupLaws.{sizes-told}
+use Rattle.lifecycle.proofs.SetupLaws.{blocks-told}
 use Rattle.lifecycle.specs.Lifecycle.{Life, announced, expired, finished, started}
-use Rattle.lifecycle.specs.Setup.{Setup, sound-sizes, bad-blocks}
+use Rattle.lifecycle.specs.Setup.{Setup}
 use Rattle.definition.specs.FdtSession.{Fdt, FdtTurn, fdt-published, fdt-run}
 use Rattle.definition.specs.Session.{Object, Hand, Session, living, startable, begin, put-back, Turn, sent, file-run}
 use Rattle.definition.specs.Desk.{Desk, Request, Call, Answer, opening, in-hands, objects, moved, numbered, with-fdt, in-hand, marked, marked-hand, all-published, reserved, toi-for, own-sizes, made, admitted, reserve-refusal, release-refusal, add-refusal, publish-refusal, draft-refusal, draft-of, unless, ran, step, run, unloosed, fdt-queued, fdt-ran, Touch, touched-waiting, touched-hand, touched}
 use Rattle.sizes.specs.Words.{Each}
-use Rattle.sizes.proofs.Tests.{or-left, or-right}
 use Rattle.sizes.proofs.Lists.{each-append, each-drop-first, each-map, each-set, each-find, each-at, each-left, each-right}
-use Rattle.definition.specs.TotalPromises.{InRange}
 use Rattle.definition.proofs.Weights.{none-yet}
 use Rattle.definition.proofs.Numbers.{blocks-fit}
 use Rattle.definition.proofs.Touches.{touched-kept, touched-hand-kept, each-touched}
@@ -183,17 +177,10 @@ module _ (P : Object → Type 0) where
 abbrev pub Sized : Object → Type 0
 Sized o = (1 ≤ o .sizes .e) × (1 ≤ o .sizes .b)
 
--- what refusal 4 leaves
-pub in-range : (z : Sizes) (l : ℕ) → bad-blocks z l ≡ false → InRange z l
-unfolding bad-blocks
-in-range z l h =
-    let r = sizes-told z (not-false (sound-sizes z) (or-left (not (sound-sizes z)) (ltb most-blocks (blocks-of z l .blocks)) h)) in
-    record { symbol = r .symbol; block = r .block; count = ltb-false most-blocks (blocks-of z l .blocks) (or-right (not (sound-sizes z)) (ltb most-blocks (blocks-of z l .blocks)) h) }
-
 -- what an add admits has sound E and B
 added-sized : (s : Setup) (d : Desk) (named : Option ℕ) (q : Request) → add-refusal s d named q ≡ none → Sized (made s (toi-for d named) q)
 unfolding made
-added-sized s d named q h = let r = in-range (own-sizes s q) (q .part .size) (blocks-fit s d named q h) in (r .symbol .0, r .block .0)
+added-sized s d named q h = let r = blocks-told (own-sizes s q) (q .part .size) (blocks-fit s d named q h) .sizes in (r .symbol .0, r .block .0)
 
 -- so every object has, at every moment
 pub sized-step : (s : Setup) (d : Desk) (c : Call) → Everywhere Sized d → Everywhere Sized (step s d c .1)

@@ -17,7 +17,7 @@ use Rattle.sizes.specs.declared.toiallocator.ToiAllocator.{ToiAllocator}
 use Rattle.sizes.proofs.Tests.{and-left, and-right}
 use Rattle.sizes.proofs.Lists.{found-first, at-get, at-take}
 use Rattle.sizes.proofs.Arrays.{getD-shut, take-shut, length-shut}
-use Rattle.sizes.proofs.Tables.{times-at, times-cut, inside, set-all, tally-lt, counts-length}
+use Rattle.sizes.proofs.Tables.{one-true, times-at, times-cut, inside, set-all, tally-lt, counts-length}
 use Rattle.sizes.proofs.Collects.{adds, at-inside, collect-set, collect-at}
 use Rattle.lifecycle.specs.Slots.{no-slot, slot-at, is-free, is-listed-as}
 use Rattle.lifecycle.specs.FdtCalls.{waiting, sends, used, waits, Tidy, ValidFdt, with-objects, listed-place}
@@ -33,10 +33,6 @@ maybe-on P (some a) n s = s a refl
 pub if-on : {A : Type 0} (P : A → Type 0) (b : Bool) {x y : A} → (b ≡ true → P x) → (b ≡ false → P y) → P (if b then x else y)
 if-on P true t f = t refl
 if-on P false t f = f refl
-
-pub one-true : (b : Bool) → 1 ≤ one-if b → b ≡ true
-one-true true h = refl
-one-true false h = absurd (omega arith)
 
 and-not : (a b : Bool) → b ≡ true → (a && not b) ≡ false
 and-not true b e = ap not e

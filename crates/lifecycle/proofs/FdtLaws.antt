@@ -18,9 +18,8 @@ use Rattle.sizes.specs.declared.toiallocator.Given.the-variants.{Number, Full}
 use Rattle.sizes.proofs.Tests.{Tested, pass, fail, tested}
 use Rattle.sizes.proofs.Lists.{found-first, at-take, at-get}
 use Rattle.sizes.proofs.Arrays.{each-get}
-use Rattle.sizes.proofs.Tables.{inside}
+use Rattle.sizes.proofs.Tables.{one-true, one-most, inside}
 use Rattle.lifecycle.proofs.FdtFacts as Facts
-use Rattle.lifecycle.proofs.FdtFacts.{one-true}
 use Rattle.lifecycle.specs.Lifecycle.{expired}
 use Rattle.lifecycle.specs.FileDesc.{plan-of, life-of, with-life, reset-life}
 use Rattle.lifecycle.specs.Slots.{no-slot, slot-at, is-free, is-listed-as, queue-startable}
@@ -35,10 +34,6 @@ use Rattle.lifecycle.specs.declared.fdt.Fdt.{Fdt}
 use Rattle.lifecycle.specs.declared.fdt.Named.{Named}
 use Rattle.lifecycle.specs.declared.fdt.Request.{Request}
 use Rattle.lifecycle.specs.declared.fdt.Admission.the-variants as AdmissionV
-
-one-most : (b : Bool) → one-if b ≤ 1
-one-most true = omega arith
-one-most false = omega arith
 
 -- what holds of each number that stands in a list
 each-in : (P : ℕ → Type 0) (l : List ℕ) → ((k : ℕ) → 1 ≤ times k l → P k) → Each P l

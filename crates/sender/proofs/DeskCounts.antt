@@ -14,7 +14,7 @@ use Rattle.sizes.specs.Toi.{next-toi}
 use Rattle.sizes.specs.Allocator as Alloc
 use Rattle.sizes.proofs.Tests.{Tested, pass, fail, tested}
 use Rattle.sizes.proofs.Lists.{map-append, times-append}
-use Rattle.sizes.proofs.Tables.{map-in, same-length, same-has, inside, other, leaves, counts-length}
+use Rattle.sizes.proofs.Tables.{one-true, map-in, same-length, same-has, inside, other, leaves, counts-length}
 use Rattle.sizes.proofs.Collects.{adds, at-inside, collect-set}
 use Rattle.sizes.proofs.ToiLaws.{next-same}
 use Rattle.sizes.proofs.AllocatorLaws.{held-length, held-noting}
@@ -23,7 +23,6 @@ use Rattle.lifecycle.specs.Setup.{Setup}
 use Rattle.lifecycle.specs.Slots.{no-slot, slot-at, is-free}
 use Rattle.lifecycle.specs.FdtCalls.{file-at, waiting, sends, used}
 use Rattle.lifecycle.specs.declared.slots.Slot.{Slot}
-use Rattle.lifecycle.proofs.FdtFacts.{one-true}
 use Rattle.lifecycle.proofs.FdtViews.{differs, map-two}
 use Rattle.lifecycle.proofs.FdtSearches.{free-view}
 use Rattle.definition.specs.Session.{Object, Hand}

@@ -11,7 +11,6 @@ use types.Run.{OneOf}
 use denote.Enum.Declared.{tagOf}
 use Rattle.sizes.specs.Words.{if_then_else_, maybe}
 use Rattle.lifecycle.specs.Parts.{past-store}
-pub use Rattle.lifecycle.proofs.PartLaws.{lies-in}
 use Rattle.lifecycle.specs.declared.parts.Part.{Part}
 use Rattle.definition.specs.Payload.{Store, Stores, Place, no-place, bytes-of, store-of, place-of, payload-of}
 use Rattle.sender.specs.SenderCalls.{packet-said, packet-in}

@@ -26,7 +26,7 @@ use Rattle.lifecycle.specs.declared.slots.Slot.{Slot}
 use Rattle.lifecycle.specs.declared.fdt.Fdt.{Fdt}
 use Rattle.lifecycle.specs.declared.fdt.Settings.{Settings}
 use Rattle.lifecycle.proofs.SetupLaws.{sizes-sound, told}
-pub use Rattle.lifecycle.proofs.SetupLaws.{Passed, passed, refused-by, by-id}
+use Rattle.lifecycle.proofs.SetupLaws.{passed, by-id}
 use Rattle.lifecycle.proofs.FdtKeeps.{OpeningList, opening-list}
 use Rattle.lifecycle.proofs.PublishLaws.{valid-opened}
 use Rattle.definition.specs.Desk as Def

@@ -12,8 +12,11 @@ use sizes::numbers::Sbn;
 
 // The largest values of fields of 16, 20 and 48 bits.
 const MOST_16: u32 = 0xFFFF;
+
 const MOST_16_OF_64: u64 = 0xFFFF;
+
 const MOST_20: u32 = 0xF_FFFF;
+
 const MOST_48: u64 = 0xFFFF_FFFF_FFFF;
 
 // What a record says of a packet. A value may be too wide for its field.

@@ -1,5 +1,6 @@
 use Rattle.definition.specs.Payload.{Store}
-use Rattle.sender.proofs.PayloadLaws.{lies-in, no-packet, of-fdt, of-object, left-out, cut-out}
+use Rattle.lifecycle.proofs.PartLaws.{lies-in}
+use Rattle.sender.proofs.PayloadLaws.{no-packet, of-fdt, of-object, left-out, cut-out}
 use mathlib.Core.Path.{sym, _∙_}
 use native.Mathlib.Omega.{arith}
 use borrow.Author.Needs.{needs}

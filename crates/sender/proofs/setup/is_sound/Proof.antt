@@ -1,5 +1,6 @@
 use Rattle.sender.specs.SetupCalls.{setup-said}
-use Rattle.sender.proofs.SetupCallsLaws.{Passed, passed, refused-by, by-id, few-named, small-named, width-bad, width-has}
+use Rattle.lifecycle.proofs.SetupLaws.{Passed, passed, refused-by, by-id}
+use Rattle.sender.proofs.SetupCallsLaws.{few-named, small-named, width-bad, width-has}
 use borrow.Author.Tests.{not-true, not-false}
 use mathlib.Core.Path.{sym, _∙_}
 use borrow.Author.Tests.{le-leb, lt-leb}

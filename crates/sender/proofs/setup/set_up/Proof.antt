@@ -2,7 +2,8 @@ use mathlib.Core.Bool.{true}
 use Rattle.sender.specs.SetupCalls.{setup-said, Opens}
 use Rattle.sender.specs.declared.sender.Sender.{Sender}
 use Rattle.sender.specs.declared.setup.Opened.{Opened}
-use Rattle.sender.proofs.SetupCallsLaws.{passed, refused-by, width-bad, width-is, opens, opens-not}
+use Rattle.lifecycle.proofs.SetupLaws.{passed, refused-by}
+use Rattle.sender.proofs.SetupCallsLaws.{width-bad, width-is, opens, opens-not}
 use Rattle.lifecycle.proofs.SetupLaws.{told}
 use mathlib.Core.Path.{sym, _∙_, subst}
 use borrow.Author.Needs.{needs}
