@@ -1,1 +1,1 @@
-// No code: a law, for every crate whose calls a host lends a state to. It stands in proofs/.
+// No code: the law of a call on a state that a host lends. It stands in proofs/.
