@@ -1,7 +1,7 @@
 // The bytes of the two stores, and the checksum of a payload.
 //
-// A store may be longer than the memory for it. Its bytes repeat themselves, so that a part which lies further behind is
-// found at the front again.
+// A store may be longer than the memory for it. Its bytes repeat, so a part that lies further along has the same bytes as
+// one in the first period.
 ghost use mathlib.Core.Path.{_≡_};
 ghost use Prim.Native.Nat.{_<_, _≤_};
 ghost use lib.ListN.{length};

@@ -1,4 +1,4 @@
--- Laws of the FDT side: what each function makes of it in the definition's words, and that it keeps FdtValid.
+-- Laws of the FDT side: what each function makes of it in the definition's words, and that the FDT side stays valid.
 use mathlib.Core.Path.{_≡_, refl, sym, _∙_, ap, subst}
 use mathlib.Core.Bool.{Bool, true, false, not, _&&_, _||_, true≢false}
 use mathlib.Core.Option.{none, some}
@@ -32,9 +32,9 @@ use Rattle.lifecycle.specs.declared.announce.NextInstance.{NextInstance}
 use Rattle.lifecycle.specs.declared.announce.Draft.{Draft}
 use Rattle.lifecycle.specs.declared.announce.Draft.the-variants.{Given, Missing}
 
--- ---- the rule and the validity
+-- ---- the plan and the validity
 
--- the rule of every FDT says the plan of the set-up whose carousel the flags name
+-- the plan of every FDT, as the code has it, is the definition's, with the carousel that the flags name
 pub plan-said : (s : Setup) (start : Bool) (d : ℕ) → s .carousel ≡ (if start then Carousel.interval d else Carousel.delay d) → plan-of (fdt-plan-of start d) ≡ fdt-plan s
 plan-said s start d e = rw e
 
@@ -73,7 +73,7 @@ or-false : (x : Bool) → (x || false) ≡ x
 or-false true = refl
 or-false false = refl
 
--- ---- FdtValid is kept
+-- ---- the FDT side stays valid
 
 pub valid-opening : (id : ℕ) → id ≤ largest-fdt-id → ValidAnnouncer (new-announcer id)
 valid-opening id h =

@@ -1,4 +1,4 @@
--- Laws of the calls of fdt.rt: what Valid tells of slots and queue, and what each call comes to in each of its cases.
+-- Laws of the calls of fdt.rt: what a valid list tells of slots and queue, and what each call comes to in each of its cases.
 use mathlib.Core.Path.{_≡_, refl, sym, _∙_, ap, subst}
 use mathlib.Core.Bool.{Bool, true, false, not, and-false, _&&_}
 use mathlib.Core.Option.{Option, none, some}
@@ -47,7 +47,7 @@ said-some e q = sym e ∙ ap place-said q
 pub said-none : {r : Place} {o : Option ℕ} → place-said r ≡ o → r ≡ Nothing → o ≡ none
 said-none e q = sym e ∙ ap place-said q
 
--- ---- what Valid tells
+-- ---- what a valid list tells
 
 module _ (f : Fdt) (v : ValidFdt f) where
   -- as many hold it as it says, so at most the list and a session

@@ -1,4 +1,4 @@
--- Every call keeps Valid, and so does publishing.
+-- After every call the list is valid again.
 use mathlib.Core.Path.{_≡_, refl, sym, _∙_, ap, subst}
 use mathlib.Core.Bool.{true, false, not, _&&_, true≢false}
 use mathlib.Core.Option.{some}

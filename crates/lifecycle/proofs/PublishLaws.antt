@@ -56,7 +56,7 @@ module _ (now : ℕ) (draft : Draft) (f : Fdt) (r : Plan) (n : NextInstance)
   pub next-left-by : n .taken ≡ false → record { taken = false; starts = n .starts; fdt = with-announcer f (n .announcer) } ≡ next-fdt-of now draft f
   next-left-by e = as-flag false e ∙ is-next
 
--- ---- Valid is kept
+-- ---- the list stays valid
 
 -- another FDT side
 with-side : (f : Fdt) (a : Announcer) → ValidAnnouncer a → ValidFdt f → ValidFdt (with-announcer f a)

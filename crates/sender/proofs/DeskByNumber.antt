@@ -1,4 +1,4 @@
--- Remove and trigger under the sender: the answer and the desk are the definition's, and Valid is kept.
+-- Remove and trigger under the sender: the answer and the desk are the definition's, and the sender stays valid.
 use mathlib.Core.Path.{_≡_, refl, sym, _∙_, ap}
 use mathlib.Core.Bool.{Bool, true, false, not, _&&_}
 use mathlib.Core.List.{List, [], _∷_, map}

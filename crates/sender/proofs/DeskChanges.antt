@@ -1,4 +1,4 @@
--- A change of the list under the sender: what its sessions have in hand after it, that Valid is kept, and the object with a number.
+-- A change of the list under the sender: what its sessions have in hand after it, that the sender stays valid, and the object with a number.
 use mathlib.Core.Path.{_≡_, refl, sym, _∙_, ap, subst}
 use mathlib.Core.Bool.{Bool, true, false}
 use mathlib.Core.Option.{Option, none, some}
@@ -78,7 +78,7 @@ pub sessions-same : (s : Sender) → ValidSender s → (t : List Slot) → ((j :
 sessions-same s v t h =
     sessions-moved s v t (λ y. y) (λ j x e. ap (λ (y : Slot). hand-of y x) (h j e)) ∙ in-hand-same (map (session-of (s .fdt .slots)) (working s))
 
--- ---- Valid, of a sender with another list
+-- ---- a sender with another list is valid
 
 -- what a call leaves as it was: the settings, the part and sizes of each object in transfer, whether the current FDT is being transferred
 pub record Stays (f r : Fdt) : Type 0 where

@@ -1,4 +1,4 @@
--- A run of a file session under the sender: the answer and the desk are the definition's, and Valid is kept.
+-- A run of a file session under the sender: the answer and the desk are the definition's, and the sender stays valid.
 use Rattle.sizes.specs.declared.refusal.Refusal.the-variants as Because
 use mathlib.Core.Path.{_≡_, refl, sym, _∙_, ap, subst}
 use mathlib.Core.Bool.{Bool, true, false, _&&_}

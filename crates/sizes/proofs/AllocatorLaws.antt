@@ -1,4 +1,4 @@
--- Laws of the allocator: what each call makes of the entries in use, and that it keeps Valid.
+-- Laws of the allocator: what each call makes of the entries in use, and that the allocator stays valid.
 use mathlib.Core.Path.{_≡_, refl, sym, _∙_, ap, subst}
 use mathlib.Core.Bool.{Bool, true, false, not}
 use mathlib.Core.Option.{Option, none, some}
