@@ -4,7 +4,7 @@ it writes the answers, crates/desk/stdout.
 
     python3 vectors/desk.py ORACLE
 
-ORACLE is the original Rust (src/sender/ as it is) behind a program that reads the language of oracle/README.md, one call a
+ORACLE is the original Rust (src/sender/ as it is) behind a program that reads the language of docs/SCRIPTS.md, one call a
 line. Every call that is accepted is given to it, and its answers are stored; on the way they are held to those of the model,
 oracle/tools/model.py. The answers to four kinds of lines are not the Rust's:
 

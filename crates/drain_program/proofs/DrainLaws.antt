@@ -12,11 +12,10 @@ use Rattle.sizes.specs.Limits.{wide, largest-window, longest-store}
 use Rattle.sizes.specs.Partition.{sbn, symbols-of, split, partition-of, first-symbol, block-start}
 use Rattle.sizes.specs.declared.numbers.Sbn.{Sbn}
 use Rattle.sizes.specs.declared.partition.Partition.{Partition}
-use Rattle.sizes.proofs.Tests.{or-left, or-right}
+use Rattle.sizes.proofs.Tests.{or-left, or-right, if-on}
 use Rattle.sizes.proofs.Arithmetic.{ceil-cases, ceil-some}
 use Rattle.sizes.proofs.Lengths.{before-large, before-small}
 use Rattle.lifecycle.specs.Setup.{bad-blocks}
-use Rattle.lifecycle.proofs.FdtFacts.{if-on}
 use Rattle.lifecycle.proofs.SetupLaws.{in-range, sizes-sound, blocks-counted}
 use Rattle.sender.specs.EncoderCalls.{Sound, ValidEncoder, offset-of, new-of}
 use Rattle.sender.specs.EncoderPromises.{Shown, named}

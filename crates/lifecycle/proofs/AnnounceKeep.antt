@@ -11,7 +11,7 @@ use lib.Seq.{getD-set-same, getD-set-other}
 use borrow.Author.Tests.{eqb-true, eqb-false}
 use Rattle.sizes.specs.Words.{if_then_else_, given}
 use Rattle.sizes.specs.Limits.{waiting-fdts}
-use Rattle.sizes.proofs.Tests.{Tested, pass, fail, tested, and-left, or-left}
+use Rattle.sizes.proofs.Tests.{Tested, pass, fail, tested, and-left, or-left, if-on}
 use Rattle.sizes.proofs.Arrays.{getD-shut}
 use Rattle.lifecycle.specs.Parts.{past-store}
 use Rattle.lifecycle.specs.Lifecycle.{may-start}
@@ -30,7 +30,6 @@ use Rattle.lifecycle.specs.declared.announce.Draft.{Draft}
 use Rattle.lifecycle.specs.declared.announce.Draft.the-variants.{Given, Missing}
 use Rattle.lifecycle.specs.declared.fdt.Fdt.{Fdt}
 use Rattle.lifecycle.proofs.PartLaws.{lies-in}
-use Rattle.lifecycle.proofs.FdtFacts.{if-on}
 use Rattle.lifecycle.proofs.AnnounceLaws.{needed-empty}
 
 -- ---- the objects

@@ -6,6 +6,7 @@ use native.Mathlib.Omega.{arith}
 use lib.Dec.{eqb}
 use borrow.Author.Tests.{eqb-false}
 use Rattle.sizes.specs.Words.{given}
+use Rattle.sizes.proofs.Tests.{if-on, maybe-on}
 use Rattle.lifecycle.specs.Lifecycle.{may-start}
 use Rattle.lifecycle.specs.FileDesc.{plan-of, life-of, started-life, done-life}
 use Rattle.lifecycle.specs.Announce as Ann
@@ -17,7 +18,6 @@ use Rattle.lifecycle.specs.declared.announce.Announcer.{Announcer}
 use Rattle.lifecycle.specs.declared.announce.NextInstance.{NextInstance}
 use Rattle.lifecycle.specs.declared.announce.Draft.{Draft}
 use Rattle.lifecycle.specs.declared.fdt.Fdt.{Fdt}
-use Rattle.lifecycle.proofs.FdtFacts.{if-on, maybe-on}
 use Rattle.lifecycle.proofs.AnnounceLaws.{valid-republished}
 
 -- is the current one being transferred

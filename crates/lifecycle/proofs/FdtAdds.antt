@@ -14,6 +14,7 @@ use Rattle.sizes.specs.Allocator as Alloc
 use Rattle.sizes.specs.declared.partition.Sizes.{Sizes}
 use Rattle.sizes.specs.declared.toiallocator.ToiAllocator.{ToiAllocator}
 use Rattle.sizes.proofs.AllocatorViews.{allocated-room}
+use Rattle.sizes.proofs.Tests.{if-on, maybe-on}
 use Rattle.lifecycle.specs.Setup.{bad-blocks}
 use Rattle.lifecycle.specs.Slots.{is-free}
 use Rattle.lifecycle.specs.FdtCalls.{files, waits, ValidFdt, with-tois, own-of, bad-part-of, put-of, refuses, refusal, named-of, fresh-of, numbered-of, added-of}
@@ -25,7 +26,7 @@ use Rattle.lifecycle.specs.declared.fdt.Admission.the-variants as Admiss
 use Rattle.lifecycle.specs.declared.fdt.Request.{Request}
 use Rattle.lifecycle.specs.declared.fdt.Named.{Named}
 use Rattle.lifecycle.specs.declared.fdt.Named.the-variants as NamedV
-use Rattle.lifecycle.proofs.FdtFacts.{maybe-on, if-on, free-at}
+use Rattle.lifecycle.proofs.FdtFacts.{free-at}
 use Rattle.lifecycle.proofs.FdtViews.{seen-joins}
 
 module _ (f : Fdt) (v : ValidFdt f) (q : Request) (z : Sizes) where

@@ -11,7 +11,7 @@ use lib.ListN.{set}
 use lib.Seq.{getD-set-same}
 use Rattle.sizes.specs.Words.{if_then_else_, maybe, over, given, keep, find, at, cut, place, one-if, times, Counts}
 use Rattle.sizes.specs.Allocator as Alloc
-use Rattle.sizes.proofs.Tests.{and-left, and-right}
+use Rattle.sizes.proofs.Tests.{and-left, and-right, if-on, maybe-on}
 use Rattle.sizes.proofs.Lists.{Sought, hit, miss, sought, found-none, at-get, any-map, map-cut}
 use Rattle.sizes.proofs.Tables.{one-true, times-at, times-cut, keep-all, keep-cut, find-map, find-any, any-in, any-none, other}
 use Rattle.sizes.proofs.Collects.{at-inside}
@@ -26,7 +26,7 @@ use Rattle.lifecycle.specs.declared.filedesc.FileDesc.{FileDesc}
 use Rattle.lifecycle.specs.declared.slots.Slot.{Slot}
 use Rattle.lifecycle.specs.declared.fdt.Fdt.{Fdt}
 use Rattle.lifecycle.specs.declared.fdt.Touched.{Touched}
-use Rattle.lifecycle.proofs.FdtFacts.{maybe-on, if-on, used-listed, used-sends, waits-not, listed-at, waits-at, absent, number-held, queue-place}
+use Rattle.lifecycle.proofs.FdtFacts.{used-listed, used-sends, waits-not, listed-at, waits-at, absent, number-held, queue-place}
 use Rattle.lifecycle.proofs.FdtViews.{differs, map-two, not-in, none-at, no-right, apart, others, in-waiting, waiting-used, at-each, seen-aside, seen-leaves}
 
 -- ---- a number that is looked for

@@ -10,7 +10,7 @@ use lib.Dec.{eqb}
 use borrow.Author.Tests.{eqb-true, not-true, eq-eqb}
 use lib.ListN.{length, set, getD, take, length-set, length-take}
 use lib.Seq.{getD-set-other, getD-take, take-suc-set}
-use Rattle.sizes.specs.Words.{if_then_else_, maybe, at, cut, place, shut, one-if, times, Counts}
+use Rattle.sizes.specs.Words.{if_then_else_, at, cut, place, shut, one-if, times, Counts}
 use Rattle.sizes.specs.Limits.{object-slots}
 use Rattle.sizes.specs.Allocator as Alloc
 use Rattle.sizes.specs.declared.toiallocator.ToiAllocator.{ToiAllocator}
@@ -24,15 +24,6 @@ use Rattle.lifecycle.specs.FdtCalls.{waiting, sends, used, waits, Tidy, 
 use Rattle.lifecycle.proofs.FdtMeans.{Waits, Free, Listed}
 use Rattle.lifecycle.specs.declared.slots.Slot.{Slot}
 use Rattle.lifecycle.specs.declared.fdt.Fdt.{Fdt}
-
--- what holds of both ends of a choice holds of the choice
-pub maybe-on : {A B : Type 0} (P : B → Type 0) {d : B} {g : A → B} (o : Option A) → (o ≡ none → P d) → ((a : A) → o ≡ some a → P (g a)) → P (maybe d g o)
-maybe-on P none n s = n refl
-maybe-on P (some a) n s = s a refl
-
-pub if-on : {A : Type 0} (P : A → Type 0) (b : Bool) {x y : A} → (b ≡ true → P x) → (b ≡ false → P y) → P (if b then x else y)
-if-on P true t f = t refl
-if-on P false t f = f refl
 
 and-not : (a b : Bool) → b ≡ true → (a && not b) ≡ false
 and-not true b e = ap not e

@@ -14,9 +14,8 @@ use Rattle.sizes.specs.declared.refusal.Refusal.the-variants as Because
 use Rattle.sizes.specs.Allocator as Alloc
 use Rattle.sizes.specs.declared.partition.Sizes.{Sizes}
 use Rattle.sizes.specs.declared.toiallocator.ToiAllocator.{ToiAllocator}
-use Rattle.sizes.specs.declared.toiallocator.Allocated.{Allocated}
-use Rattle.sizes.specs.declared.toiallocator.Changed.{Changed}
-use Rattle.sizes.proofs.Tests.{none≢some, or-left, or-right}
+use Rattle.sizes.proofs.Tests.{none≢some, or-left, or-right, if-on, maybe-on}
+use Rattle.sizes.proofs.AllocatorViews.{allocated-width, claimed-width, dropped-width}
 use Rattle.lifecycle.specs.Setup.{bad-blocks}
 use Rattle.lifecycle.specs.Slots.{no-slot, slot-at, is-free, queue-startable, published-slot}
 use Rattle.lifecycle.specs.Announce.{state-of, draft-given, queued-of, bad-fdt-of}
@@ -39,23 +38,7 @@ use Rattle.lifecycle.specs.declared.fdt.Touched.{Touched}
 use Rattle.lifecycle.specs.declared.fdt.Taken.{Taken}
 use Rattle.lifecycle.specs.declared.fdt.Publication.the-variants as PublicationV
 use Rattle.lifecycle.specs.declared.fdt.Published.{Published}
-use Rattle.lifecycle.proofs.FdtFacts.{maybe-on, if-on}
 use Rattle.lifecycle.proofs.FdtByNumber.{removed-cases}
-
--- ---- the width of the numbers stays
-
-module _ (a : ToiAllocator) where
-  pub allocated-width : (flag : Bool) → Alloc.allocated-of flag a .allocator .width ≡ a .width
-  unfolding Alloc.allocated-of Alloc.moved-on Alloc.noting
-  allocated-width flag = if-on (λ (x : Allocated). x .allocator .width ≡ a .width) (ltb (a .entered) toi-entries) (λ e. refl) (λ e. refl)
-
-  pub claimed-width : (t : ℕ) → Alloc.claimed-of t a .allocator .width ≡ a .width
-  unfolding Alloc.claimed-of Alloc.bound-at
-  claimed-width t = maybe-on (λ (x : Changed). x .allocator .width ≡ a .width) (place (Alloc.entry-is t true) (Alloc.noted a)) (λ e. refl) (λ i e. refl)
-
-  pub dropped-width : (flag : Bool) (t : ℕ) → Alloc.dropped-of flag t a .allocator .width ≡ a .width
-  unfolding Alloc.dropped-of Alloc.entry-gone
-  dropped-width flag t = maybe-on (λ (x : Changed). x .allocator .width ≡ a .width) (place (Alloc.entry-is t flag) (Alloc.noted a)) (λ e. refl) (λ i e. refl)
 
 -- ---- calls on the objects and their numbers
 

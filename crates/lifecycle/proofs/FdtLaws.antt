@@ -15,10 +15,11 @@ use Rattle.sizes.specs.Allocator as Alloc
 use Rattle.sizes.specs.declared.partition.Sizes.{Sizes}
 use Rattle.sizes.specs.declared.toiallocator.ToiAllocator.{ToiAllocator}
 use Rattle.sizes.specs.declared.toiallocator.Given.the-variants.{Number, Full}
-use Rattle.sizes.proofs.Tests.{Tested, pass, fail, tested}
 use Rattle.sizes.proofs.Lists.{found-first, at-take, at-get}
 use Rattle.sizes.proofs.Arrays.{each-get}
 use Rattle.sizes.proofs.Tables.{one-true, one-most, inside}
+use Rattle.sizes.proofs.AllocatorViews.{allocated-cases}
+use Rattle.sizes.specs.declared.toiallocator.Allocated.{Allocated}
 use Rattle.lifecycle.proofs.FdtFacts as Facts
 use Rattle.lifecycle.specs.Lifecycle.{expired}
 use Rattle.lifecycle.specs.FileDesc.{plan-of, life-of, with-life, reset-life}
@@ -123,20 +124,12 @@ module _ (f : Fdt) (q : Request) (z : Sizes) (t : ℕ) where
 
 -- what the allocator says tells whether it is full, and which number it gave
 allocated-full : (flag : Bool) (a : ToiAllocator) → Alloc.allocated-of flag a .answer ≡ Full → ltb (a .entered) toi-entries ≡ false
-unfolding Alloc.allocated-of
-allocated-full flag a e = go (tested (ltb (a .entered) toi-entries))
-  where
-    go : Tested (ltb (a .entered) toi-entries) → ltb (a .entered) toi-entries ≡ false
-    go (pass q) = let n : Number (a .next) ≡ Full = rw q at e in let z : _≡_ {A = ℕ} 0 1 = cc in absurd (omega arith)
-    go (fail q) = q
+allocated-full flag a = allocated-cases (λ (x : Allocated). x .answer ≡ Full → ltb (a .entered) toi-entries ≡ false) flag a
+    (λ q e. let z : _≡_ {A = ℕ} 0 1 = cc in absurd (omega arith)) (λ q e. q)
 
 allocated-some : (flag : Bool) (a : ToiAllocator) (t : ℕ) → Alloc.allocated-of flag a .answer ≡ Number t → (ltb (a .entered) toi-entries ≡ true) × (a .next ≡ t)
-unfolding Alloc.allocated-of
-allocated-some flag a t e = go (tested (ltb (a .entered) toi-entries))
-  where
-    go : Tested (ltb (a .entered) toi-entries) → (ltb (a .entered) toi-entries ≡ true) × (a .next ≡ t)
-    go (pass q) = let n : Number (a .next) ≡ Number t = rw q at e in (q, cc)
-    go (fail q) = let n : Full ≡ Number t = rw q at e in let z : _≡_ {A = ℕ} 0 1 = cc in absurd (omega arith)
+allocated-some flag a t = allocated-cases (λ (x : Allocated). x .answer ≡ Number t → (ltb (a .entered) toi-entries ≡ true) × (a .next ≡ t)) flag a
+    (λ q e. (q, cc)) (λ q e. let z : _≡_ {A = ℕ} 0 1 = cc in absurd (omega arith))
 
 module _ (f : Fdt) (q : Request) (z : Sizes) where
   pub fresh-none : place is-free (f .slots) ≡ none → fresh-of f q z ≡ refuses f Because.Full

@@ -9,6 +9,7 @@ use lib.Dec.{eqb}
 use borrow.Author.Tests.{eqb-true, eq-eqb}
 use Rattle.sizes.specs.Words.{one-if, times, Counts}
 use Rattle.sizes.specs.declared.refusal.Refusal.{Refusal}
+use Rattle.sizes.proofs.Tests.{if-on}
 use Rattle.lifecycle.specs.FileDesc.{started-life, done-life}
 use Rattle.lifecycle.specs.Announce.{fdt-plan-of, next-of, queued-of}
 use Rattle.lifecycle.specs.Slots.{no-slot, slot-at}
@@ -23,7 +24,6 @@ use Rattle.lifecycle.specs.declared.fdt.Added.{Added}
 use Rattle.lifecycle.specs.declared.fdt.Published.{Published}
 use Rattle.lifecycle.specs.declared.fdt.Request.{Request}
 use Rattle.lifecycle.specs.declared.fdt.Named.{Named}
-use Rattle.lifecycle.proofs.FdtFacts.{if-on}
 use Rattle.lifecycle.proofs.FdtViews.{at-each, taken-view, done-view, published-at}
 use Rattle.lifecycle.proofs.FdtKeeps.{marks-slot, publish-refusal-of, published-by, publish-as}
 use Rattle.lifecycle.proofs.FdtAdds.{added-view}

@@ -13,7 +13,7 @@ use Rattle.sizes.specs.Limits.{object-slots, toi-entries}
 use Rattle.sizes.specs.Allocator as Alloc
 use Rattle.sizes.specs.declared.partition.Sizes.{Sizes}
 use Rattle.sizes.specs.declared.toiallocator.ToiAllocator.{ToiAllocator}
-use Rattle.sizes.proofs.Tests.{Tested, pass, fail, tested, and-left, or-left}
+use Rattle.sizes.proofs.Tests.{Tested, pass, fail, tested, and-left, or-left, if-on, maybe-on}
 use Rattle.sizes.proofs.Lists.{found-first, times-append}
 use Rattle.sizes.proofs.Tables.{times-cut, inside, leaves, joins, stays}
 use Rattle.sizes.proofs.Collects.{adds, collect-same}
@@ -35,7 +35,7 @@ use Rattle.lifecycle.specs.declared.fdt.Added.{Added}
 use Rattle.lifecycle.specs.declared.fdt.Request.{Request}
 use Rattle.lifecycle.specs.declared.fdt.Named.{Named}
 use Rattle.lifecycle.specs.declared.fdt.Named.the-variants as NamedV
-use Rattle.lifecycle.proofs.FdtFacts.{maybe-on, if-on, toi-in, toi-used, used-listed, used-sends, waits-not, listed-at, waits-at, room, number-held, queue-place, free-at, queue-same, queue-shut, queue-push, waiting-shut, waiting-push, valid-changed}
+use Rattle.lifecycle.proofs.FdtFacts.{toi-in, toi-used, used-listed, used-sends, waits-not, listed-at, waits-at, room, number-held, queue-place, free-at, queue-same, queue-shut, queue-push, waiting-shut, waiting-push, valid-changed}
 
 -- ---- set-up
 

@@ -12,7 +12,7 @@ use lib.Seq.{getD-set-same}
 use Rattle.sizes.specs.Words.{if_then_else_, given, over, at, cut, place, shut, one-if, times}
 use Rattle.sizes.specs.Allocator as Alloc
 use Rattle.sizes.specs.declared.toiallocator.ToiAllocator.{ToiAllocator}
-use Rattle.sizes.proofs.Tests.{Tested, pass, fail, tested, and-left, none≢some}
+use Rattle.sizes.proofs.Tests.{Tested, pass, fail, tested, and-left, none≢some, if-on, maybe-on}
 use Rattle.sizes.proofs.Lists.{Hit, Sought, hit, miss, sought, found-first, found-none, at-map, map-append, map-cut, has-none}
 use Rattle.sizes.proofs.Tables.{one-true, map-in, find-any, inside, other, none-get}
 use Rattle.sizes.proofs.Collects.{adds, at-inside, collect-set, collect-at}
@@ -25,7 +25,7 @@ use Rattle.lifecycle.proofs.FdtMeans.{Listed, Seen, Takes, nothing, tak
 use Rattle.lifecycle.specs.declared.slots.Slot.{Slot}
 use Rattle.sizes.specs.declared.place.Place.the-variants.{At}
 use Rattle.lifecycle.specs.declared.fdt.Fdt.{Fdt}
-use Rattle.lifecycle.proofs.FdtFacts.{maybe-on, if-on, toi-in, toi-used, used-listed, used-sends, waits-not, waits-at, absent, room, number-held, waiting-shut, waiting-push}
+use Rattle.lifecycle.proofs.FdtFacts.{toi-in, toi-used, used-listed, used-sends, waits-not, waits-at, absent, room, number-held, waiting-shut, waiting-push}
 
 -- a number that is in is not one that is out
 pub differs : (k j : ℕ) (l : List ℕ) → times k l ≡ 0 → 1 ≤ times j l → eqb k j ≡ false

@@ -11,7 +11,7 @@ use Rattle.sizes.specs.Words.{if_then_else_, first-of, any}
 use Rattle.sizes.specs.declared.refusal.Refusal.{Refusal}
 use Rattle.sizes.specs.declared.refusal.Refusal.the-variants as Because
 use Rattle.sizes.specs.declared.partition.Sizes.{Sizes}
-use Rattle.sizes.proofs.Tests.{or-left, none≢some}
+use Rattle.sizes.proofs.Tests.{or-left, none≢some, if-on, maybe-on}
 use Rattle.sizes.proofs.Tables.{other}
 use Rattle.lifecycle.specs.Setup.{bad-blocks}
 use Rattle.lifecycle.specs.Parts.{past-store}
@@ -34,7 +34,7 @@ use Rattle.lifecycle.specs.declared.fdt.Touched.{Touched}
 use Rattle.lifecycle.specs.declared.fdt.Taken.{Taken}
 use Rattle.lifecycle.specs.declared.fdt.Published.{Published}
 use Rattle.lifecycle.proofs.PartLaws.{lies-in}
-use Rattle.lifecycle.proofs.FdtFacts.{maybe-on, if-on, used-listed, used-sends, listed-at}
+use Rattle.lifecycle.proofs.FdtFacts.{used-listed, used-sends, listed-at}
 use Rattle.lifecycle.proofs.FdtViews.{at-each, taken-view, done-view, published-at}
 use Rattle.lifecycle.proofs.FdtByNumber.{removed-cases}
 use Rattle.lifecycle.proofs.FdtAdds.{added-view, refusal-view}

@@ -13,6 +13,7 @@ use Rattle.sizes.specs.declared.toiallocator.ToiMaxLength.{ToiMaxLength}
 use Rattle.sizes.specs.declared.toiallocator.ToiAllocator.{ToiAllocator}
 use Rattle.sizes.proofs.AllocatorLaws.{valid-opening as valid-numbers}
 use Rattle.sizes.proofs.AllocatorViews.{opened-view}
+use Rattle.sizes.proofs.Tests.{if-on}
 use Rattle.lifecycle.specs.Slots.{published-slot}
 use Rattle.lifecycle.specs.Announce as Ann
 use Rattle.lifecycle.specs.Announce.{ValidAnnouncer, fdt-plan-of, queued-of, published-of, next-of}
@@ -27,7 +28,6 @@ use Rattle.lifecycle.specs.declared.fdt.NextFdt.{NextFdt}
 use Rattle.lifecycle.specs.declared.fdt.Published.{Published}
 use Rattle.lifecycle.specs.declared.fdt.Settings.{Settings}
 use Rattle.lifecycle.proofs.AnnounceLaws.{valid-queued, valid-next, valid-done, valid-opening}
-use Rattle.lifecycle.proofs.FdtFacts.{if-on}
 use Rattle.lifecycle.proofs.FdtKeeps.{publish-refusal-of, publishable, published-by, publish-as}
 use Rattle.lifecycle.proofs.FdtValid.{opening, valid-published}
 

@@ -6,6 +6,7 @@ use lib.Dec.{eqb}
 use Rattle.sizes.specs.Words.{place}
 use Rattle.sizes.specs.Allocator as Alloc
 use Rattle.sizes.specs.declared.toiallocator.ToiAllocator.{ToiAllocator}
+use Rattle.sizes.proofs.Tests.{maybe-on}
 use Rattle.lifecycle.specs.Lifecycle.{finished, expired, may-start}
 use Rattle.lifecycle.specs.FileDesc.{plan-of, life-of, started-life, startable-file}
 use Rattle.lifecycle.specs.Slots.{slot-at, queue-startable}
@@ -16,7 +17,6 @@ use Rattle.lifecycle.specs.declared.slots.Slot.{Slot}
 use Rattle.lifecycle.specs.declared.fdt.Fdt.{Fdt}
 use Rattle.lifecycle.specs.declared.fdt.Taken.{Taken}
 use Rattle.lifecycle.proofs.FileDescLaws.{life-done}
-use Rattle.lifecycle.proofs.FdtFacts.{maybe-on}
 use Rattle.lifecycle.proofs.FdtViews.{done-view}
 use Rattle.lifecycle.proofs.FdtKeeps.{SameNumbers}
 

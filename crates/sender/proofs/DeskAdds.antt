@@ -15,6 +15,7 @@ use Rattle.sizes.specs.declared.partition.Sizes.{Sizes}
 use Rattle.sizes.specs.declared.toiallocator.ToiAllocator.{ToiAllocator}
 use Rattle.sizes.proofs.Lists.{map-append, has-none}
 use Rattle.sizes.proofs.AllocatorViews.{held-split, loose-given, claimed-view}
+use Rattle.sizes.proofs.Tests.{if-on}
 use Rattle.lifecycle.specs.Lifecycle.{unborn}
 use Rattle.lifecycle.specs.Setup.{Setup}
 use Rattle.lifecycle.specs.FileDesc.{time-of}
@@ -29,7 +30,6 @@ use Rattle.lifecycle.specs.declared.fdt.Admission.the-variants as AdmissionV
 use Rattle.lifecycle.specs.declared.fdt.Request.{Request}
 use Rattle.lifecycle.specs.declared.fdt.Named.{Named}
 use Rattle.lifecycle.specs.declared.fdt.Named.the-variants as NamedV
-use Rattle.lifecycle.proofs.FdtFacts.{if-on}
 use Rattle.lifecycle.proofs.FdtViews.{at-each}
 use Rattle.lifecycle.proofs.FdtKeeps.{ObjectsOnly, added-keeps}
 use Rattle.lifecycle.proofs.FdtAdds.{added-view}

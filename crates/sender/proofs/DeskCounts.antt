@@ -18,7 +18,7 @@ use Rattle.sizes.proofs.Tables.{one-true, map-in, same-length, same-has, inside
 use Rattle.sizes.proofs.Collects.{adds, at-inside, collect-set}
 use Rattle.sizes.proofs.ToiLaws.{next-same}
 use Rattle.sizes.proofs.AllocatorLaws.{held-length, held-noting}
-use Rattle.sizes.proofs.AllocatorViews.{held-split}
+use Rattle.sizes.proofs.AllocatorViews.{held-split, given-next}
 use Rattle.lifecycle.specs.Setup.{Setup}
 use Rattle.lifecycle.specs.Slots.{no-slot, slot-at, is-free}
 use Rattle.lifecycle.specs.FdtCalls.{file-at, waiting, sends, used}
@@ -142,7 +142,6 @@ module _ (s : Sender) (v : ValidSender s) where
   -- the next number, once the stored one is noted
   pub next-view : (u : Setup) → Agrees u s → (flag : Bool) → s .fdt .tois .entered < toi-entries
       → next-toi (u .width) (s .fdt .tois .next ∷ numbers (desk-of s)) (s .fdt .tois .next) ≡ Alloc.moved-on (Alloc.noting flag (s .fdt .tois)) .next
-  unfolding Alloc.moved-on Alloc.noting
   next-view u w flag h =
       let a = s .fdt .tois in
       let same : (n : ℕ) → times n (a .next ∷ numbers (desk-of s)) ≡ times n (Alloc.held (Alloc.noting flag a)) = λ n. (
@@ -152,3 +151,4 @@ module _ (s : Sender) (v : ValidSender s) where
       ap (λ k. next-toi k (a .next ∷ numbers (desk-of s)) (a .next)) (w .width)
       ∙ next-same (a .width) (a .next ∷ numbers (desk-of s)) (Alloc.held (Alloc.noting flag a)) (a .next)
       (same-length (a .next ∷ numbers (desk-of s)) (Alloc.held (Alloc.noting flag a)) same) (λ m. same-has m (a .next ∷ numbers (desk-of s)) (Alloc.held (Alloc.noting flag a)) (same m))
+      ∙ sym (given-next flag a)

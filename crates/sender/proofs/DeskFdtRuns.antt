@@ -8,6 +8,7 @@ use mathlib.Core.List.{[], _∷_}
 use Prim.Native.Nat.{ℕ}
 use lib.ListN.{getD}
 use Rattle.sizes.specs.Words.{if_then_else_, maybe, collect, first-of}
+use Rattle.sizes.proofs.Tests.{if-on}
 use Rattle.lifecycle.specs.Lifecycle as Life
 use Rattle.lifecycle.specs.Setup.{Setup, bad-blocks}
 use Rattle.lifecycle.specs.Fdt.{bad-fdt-part}
@@ -19,7 +20,6 @@ use Rattle.lifecycle.specs.declared.announce.Announcer.{Announcer}
 use Rattle.lifecycle.specs.declared.announce.Draft.{Draft}
 use Rattle.lifecycle.specs.declared.fdt.Fdt.{Fdt}
 use Rattle.lifecycle.specs.declared.fdt.Settings.{Settings}
-use Rattle.lifecycle.proofs.FdtFacts.{if-on}
 use Rattle.lifecycle.proofs.FdtKeeps.{real-given, draft-test-as}
 use Rattle.lifecycle.proofs.AnnounceSends.{current-sends, next-fdt-sends, fdt-done-sends}
 use Rattle.lifecycle.proofs.FdtSent.{same-counts}

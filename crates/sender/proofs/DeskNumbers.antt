@@ -1,28 +1,26 @@
 -- The calls that change only numbers, or that the list is complete: reserve, release, complete.
 use Rattle.sizes.specs.declared.refusal.Refusal.the-variants as Because
 use mathlib.Core.Path.{_≡_, refl, sym, _∙_, ap, subst}
-use mathlib.Core.Bool.{Bool, true, false, not, false≢true}
+use mathlib.Core.Bool.{Bool, true, false, not}
 use mathlib.Core.List.{[], _∷_}
 use Prim.Native.Nat.{ℕ, _≤_, _<_}
 use lib.Dec.{ltb}
 use borrow.Author.Tests.{ltb-true, ltb-false}
-use Rattle.sizes.specs.Words.{if_then_else_, given, has, place, first-of}
+use Rattle.sizes.specs.Words.{if_then_else_, given, has, first-of}
 use Rattle.sizes.specs.Limits.{toi-entries}
 use Rattle.sizes.specs.Allocator as Alloc
 use Rattle.sizes.specs.declared.toiallocator.ToiAllocator.{ToiAllocator}
 use Rattle.sizes.specs.declared.toiallocator.Allocated.{Allocated}
 use Rattle.sizes.specs.declared.toiallocator.Changed.{Changed}
-use Rattle.sizes.specs.declared.toiallocator.Known.the-variants.{Done}
 use Rattle.sizes.proofs.Tests.{Tested, pass, fail, tested}
-use Rattle.sizes.proofs.AllocatorLaws.{given-fresh, full-by, loose-found}
-use Rattle.sizes.proofs.AllocatorViews.{allocated-room, loose-reserved, released-view, released-none}
+use Rattle.sizes.proofs.AllocatorLaws.{given-fresh, full-by}
+use Rattle.sizes.proofs.AllocatorViews.{allocated-room, loose-reserved, released-view, released-none, allocated-width, dropped-width, released-some}
 use Rattle.lifecycle.specs.Setup.{Setup}
 use Rattle.lifecycle.specs.FdtCalls.{with-tois}
 use Rattle.lifecycle.specs.declared.fdt.Fdt.{Fdt}
 use Rattle.lifecycle.specs.declared.fdt.Reserved.{Reserved}
 use Rattle.lifecycle.specs.declared.fdt.Released.{Released}
-use Rattle.lifecycle.proofs.FdtFacts.{maybe-on}
-use Rattle.lifecycle.proofs.FdtKeeps.{allocated-width, dropped-width, reserved-as, released-as}
+use Rattle.lifecycle.proofs.FdtKeeps.{reserved-as, released-as}
 use Rattle.definition.specs.Desk.{reserve-refusal, release-refusal, Call, Answer, Result, unless, step, not-loose, numbered, reserved, unloosed}
 use Rattle.sender.specs.SessionCalls.{Holds}
 use Rattle.sender.specs.FdtSessionCalls.{FdtHolds}
@@ -102,12 +100,6 @@ reserve-kept s v =
 
 -- ---- release
 
--- a loose reservation is let go
-released-some : (t : ℕ) (a : ToiAllocator) → has t (Alloc.loose a) ≡ true → Alloc.dropped-of true t a .answer ≡ Done
-unfolding Alloc.dropped-of
-released-some t a h = maybe-on (λ (x : Changed). x .answer ≡ Done) (place (Alloc.entry-is t true) (Alloc.noted a))
-    (λ e. absurd (false≢true (ap given (sym e) ∙ loose-found t (Alloc.noted a) ∙ h))) (λ i e. refl)
-
 -- what a call of release makes of the answer and the desk
 abbrev after-release : Sender → Changed → Result
 after-release s x = (alloc-answer (Alloc.known-said (x .answer)), desk-of (with-list s (with-tois (s .fdt) (x .allocator))))
@@ -127,7 +119,7 @@ module _ (s : Sender) (v : ValidSender s) (u : Setup) (t : ℕ) where
         fdt = desk-of s .fdt;
       }) in
       ap (λ b. unless (first-of ((Because.NotLoose, not b) ∷ [])) (desk-of s) (Answer.done, numbered (desk-of s) (a .next) (unloosed t (Alloc.loose a)))) h
-      ∙ (λ i. (alloc-answer (Alloc.known-said (sym (released-some t a h) i)), d i))
+      ∙ (λ i. (alloc-answer (Alloc.known-said (sym (released-some a t h) i)), d i))
 
   release-none : has t (Alloc.loose (s .fdt .tois)) ≡ false → step u (desk-of s) (Call.release t) ≡ after-release s (Alloc.dropped-of true t (s .fdt .tois))
   unfolding step release-refusal not-loose desk-of

@@ -12,7 +12,7 @@ use lib.Seq.{getD-set-same, getD-set-other, getD-take, take-set-lt, length-take-
 use borrow.Author.Tests.{eqb-true, eqb-false, ltb-true, ltb-false}
 use Rattle.sizes.specs.Words.{if_then_else_, maybe, over, collect, at, one-if, Counts}
 use Rattle.sizes.specs.Limits.{object-slots}
-use Rattle.sizes.proofs.Tests.{Tested, pass, fail, tested}
+use Rattle.sizes.proofs.Tests.{Tested, pass, fail, tested, if-on}
 use Rattle.sizes.proofs.Lists.{at-map}
 use Rattle.sizes.proofs.Tables.{map-at}
 use Rattle.sizes.proofs.Collects.{at-inside, adds, collect-set, collect-at}
@@ -26,7 +26,6 @@ use Rattle.sizes.specs.declared.place.Place.the-variants as PlaceV
 use Rattle.lifecycle.specs.declared.fdt.Fdt.{Fdt}
 use Rattle.lifecycle.specs.declared.announce.Announcer.{Announcer}
 use Rattle.lifecycle.proofs.AnnounceLaws.{waits-said}
-use Rattle.lifecycle.proofs.FdtFacts.{if-on}
 use Rattle.lifecycle.proofs.FdtKeeps.{taken-keeps, done-keeps}
 use Rattle.definition.specs.Session as DefS
 use Rattle.definition.specs.Desk as Def

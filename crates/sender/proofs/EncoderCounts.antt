@@ -12,12 +12,11 @@ use Rattle.sizes.specs.Words.{if_then_else_, at, cut, one-if, tally}
 use Rattle.sizes.specs.Partition.{symbols-in}
 use Rattle.sizes.specs.declared.numbers.Sbn.{Sbn}
 use Rattle.sizes.specs.declared.partition.Partition.{Partition}
-use Rattle.sizes.proofs.Tests.{none≢some}
+use Rattle.sizes.proofs.Tests.{none≢some, if-on}
 use Rattle.sizes.proofs.Arithmetic.{below-or}
 use Rattle.sizes.proofs.Tables.{tally-le}
 use Rattle.sizes.proofs.PartitionLaws.{parted, empty-exactly}
 use Rattle.lifecycle.proofs.SetupLaws.{blocks-told}
-use Rattle.lifecycle.proofs.FdtFacts.{if-on}
 use Rattle.sender.specs.EncoderCalls.{opened-blocks, is-empty, Sound, ValidEncoder, has-room, one-opened, filled-of, place-to-visit, stuck, without-of, drained-count, settled, ready-of}
 use Rattle.sender.specs.declared.blockencoder.Content.{Content}
 use Rattle.sender.specs.declared.blockencoder.BlockEncoder.{BlockEncoder}

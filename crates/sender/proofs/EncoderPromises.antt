@@ -10,11 +10,10 @@ use borrow.Author.Tests.{eqb-true, eqb-false, not-false}
 use Rattle.sizes.specs.Limits.{largest-window}
 use Rattle.sizes.specs.Partition.{symbols-of}
 use Rattle.sizes.specs.declared.partition.Sizes.{Sizes}
-use Rattle.sizes.proofs.Tests.{or-right}
+use Rattle.sizes.proofs.Tests.{or-right, if-on}
 use Rattle.sizes.proofs.Arithmetic.{one-more}
 use Rattle.sizes.proofs.PartitionLaws.{parted-bytes}
 use Rattle.lifecycle.specs.declared.parts.Part.{Part}
-use Rattle.lifecycle.proofs.FdtFacts.{if-on}
 use Rattle.definition.specs.Encoder as Def
 use Rattle.sender.specs.EncoderCalls.{Sound, ValidEncoder, no-open, encoder-of, new-of, place-to-visit, stuck, ready-of, offset-of, visit-of, emptied-of, stopping-of, emitted-of, read-of}
 use Rattle.sender.specs.EncoderPromises.{OfBlock, Shown, Carried, named}

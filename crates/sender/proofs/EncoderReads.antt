@@ -12,8 +12,7 @@ use Rattle.sizes.specs.Words.{if_then_else_, maybe, at, all}
 use Rattle.sizes.specs.Limits.{largest-block}
 use Rattle.sizes.specs.Partition.{blocks-of, symbols-in}
 use Rattle.sizes.specs.declared.partition.Partition.{Partition}
-use Rattle.sizes.proofs.Tests.{Tested, pass, fail, tested, and-left, and-right}
-use Rattle.lifecycle.proofs.FdtFacts.{if-on}
+use Rattle.sizes.proofs.Tests.{Tested, pass, fail, tested, and-left, and-right, if-on}
 use Rattle.definition.specs.Encoder as Def
 use Rattle.sender.specs.EncoderCalls.{open-said, opened-blocks, encoder-of, is-empty, ValidEncoder, has-room, filled-of, place-to-visit, stuck, without-of, drained-count, settled, ready-of, last-of, next-symbol, closes-of, shown-of, visit-of, goes-on, midway, glance-of, moved-of, emptied-of, stopping-of, emitted-of, read-of, read-said, Reads, Steps}
 use Rattle.sender.specs.declared.block.Open.{Open}

@@ -10,7 +10,7 @@ use Rattle.sizes.specs.Limits.{wide, longest-store, largest-window}
 use Rattle.sizes.specs.declared.refusal.Refusal.{Refusal}
 use Rattle.sizes.specs.declared.refusal.Refusal.the-variants as Because
 use Rattle.sizes.specs.declared.partition.Sizes.{Sizes}
-use Rattle.sizes.proofs.Tests.{none≢some}
+use Rattle.sizes.proofs.Tests.{none≢some, if-on}
 use Rattle.lifecycle.specs.Setup.{bad-blocks}
 use Rattle.lifecycle.specs.Announce.{draft-given, bad-fdt-of}
 use Rattle.lifecycle.specs.FdtCalls.{publish-of, draft-test-of, next-fdt-of, fdt-done-of}
@@ -24,7 +24,6 @@ use Rattle.lifecycle.specs.declared.fdt.Settings.{Settings}
 use Rattle.lifecycle.specs.declared.fdt.NextFdt.{NextFdt}
 use Rattle.lifecycle.specs.declared.fdt.Published.{Published}
 use Rattle.lifecycle.proofs.PublishLaws.{valid-publish, valid-next-fdt, valid-fdt-done}
-use Rattle.lifecycle.proofs.FdtFacts.{if-on}
 use Rattle.lifecycle.proofs.FdtKeeps.{publish-refusal-of, publishable, published-by, publish-as, draft-test-as}
 use Rattle.lifecycle.proofs.AnnounceKeep.{EachFdt, queued-each, next-fdt-objects, next-fdt-each, next-fdt-current, fdt-done-objects, fdt-done-each, fdt-lies-in}
 use Rattle.sender.specs.EncoderCalls.{new-of, read-of}

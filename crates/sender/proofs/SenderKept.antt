@@ -8,9 +8,9 @@ use Prim.Native.Nat.{ℕ, zero, suc, _<_, _≤_}
 use native.Mathlib.Omega.{arith}
 use borrow.Author.Tests.{lt-ltb, le-ltb}
 use lib.ListN.{length, getD, set}
+use Rattle.sizes.proofs.Tests.{if-on}
 use Rattle.lifecycle.specs.Slots.{slot-at}
 use Rattle.sizes.specs.Words.{any, given}
-use Rattle.lifecycle.proofs.FdtFacts.{if-on}
 use Rattle.lifecycle.proofs.FdtByNumber.{given-none}
 use Rattle.lifecycle.specs.FdtCalls.{draft-said, real-draft, draft-test-of, is-added-of, transfers-said, transfers-of, reserved-of, released-of, added-of, removed-of, triggered-of, completed-of}
 use Rattle.lifecycle.specs.declared.parts.Part.{Part}

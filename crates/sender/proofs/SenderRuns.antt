@@ -6,12 +6,14 @@ use mathlib.Core.List.{List, [], _∷_, map}
 use Prim.Native.Nat.{ℕ}
 use lib.Dec.{ltb}
 use lib.ListN.{length, getD}
-use Rattle.sizes.specs.Words.{if_then_else_, given, any, place}
-use Rattle.sizes.specs.Limits.{most-sessions, toi-entries}
+use Rattle.sizes.specs.Words.{if_then_else_, given, any}
+use Rattle.sizes.specs.Limits.{most-sessions}
 use Rattle.sizes.specs.Allocator as Alloc
 use Rattle.sizes.specs.declared.refusal.Refusal.{Refusal}
 use Rattle.sizes.specs.declared.toiallocator.Allocated.{Allocated}
 use Rattle.sizes.specs.declared.toiallocator.Changed.{Changed}
+use Rattle.sizes.proofs.Tests.{if-on}
+use Rattle.sizes.proofs.AllocatorViews.{allocated-cases, dropped-cases}
 use Rattle.lifecycle.specs.Setup.{sound}
 use Rattle.lifecycle.specs.Setup.{Setup as DefSetup}
 use Rattle.lifecycle.specs.Slots.{slot-at}
@@ -24,7 +26,6 @@ use Rattle.lifecycle.specs.declared.fdt.Named.{Named}
 use Rattle.lifecycle.specs.declared.fdt.Reserved.{Reserved}
 use Rattle.lifecycle.specs.declared.fdt.Released.{Released}
 use Rattle.lifecycle.specs.declared.fdt.Published.{Published}
-use Rattle.lifecycle.proofs.FdtFacts.{if-on, maybe-on}
 use Rattle.lifecycle.proofs.FdtKeeps.{reserved-as, released-as, publish-refusal-of, published-by, publish-as}
 use Rattle.lifecycle.proofs.FdtAdds.{added-view}
 use Rattle.definition.specs.Desk as Def
@@ -145,16 +146,16 @@ served-file toi (OutcomeV.Sent y) = refl
 
 module _ (s : Sender) where
   refused-reserve : refuses (alloc-answer (Alloc.given-said (reserving-of s .answer))) → reserving-of s .sender ≡ s
-  unfolding reserving-of Alloc.allocated-of
+  unfolding reserving-of
   refused-reserve = subst (λ (r : Reserved). refuses (alloc-answer (Alloc.given-said (r .answer))) → with-list s (r .fdt) ≡ s) (sym (reserved-as (s .fdt)))
-      (if-on (λ (x : Allocated). refuses (alloc-answer (Alloc.given-said (x .answer))) → with-list s (with-tois (s .fdt) (x .allocator)) ≡ s) (ltb (s .fdt .tois .entered) toi-entries)
+      (allocated-cases (λ (x : Allocated). refuses (alloc-answer (Alloc.given-said (x .answer))) → with-list s (with-tois (s .fdt) (x .allocator)) ≡ s) true (s .fdt .tois)
       (λ h e. absurd (false≢true e)) (λ h e. refl))
 
   refused-release : (t : ℕ) → refuses (alloc-answer (Alloc.known-said (releasing-of t s .answer))) → releasing-of t s .sender ≡ s
-  unfolding releasing-of Alloc.dropped-of
+  unfolding releasing-of
   refused-release t = subst (λ (r : Released). refuses (alloc-answer (Alloc.known-said (r .answer))) → with-list s (r .fdt) ≡ s) (sym (released-as (s .fdt) t))
-      (maybe-on (λ (x : Changed). refuses (alloc-answer (Alloc.known-said (x .answer))) → with-list s (with-tois (s .fdt) (x .allocator)) ≡ s) (place (Alloc.entry-is t true) (Alloc.noted (s .fdt .tois)))
-      (λ h e. refl) (λ i h e. absurd (false≢true e)))
+      (dropped-cases (λ (x : Changed). refuses (alloc-answer (Alloc.known-said (x .answer))) → with-list s (with-tois (s .fdt) (x .allocator)) ≡ s) true t (s .fdt .tois)
+      (λ e. refl) (λ i e. absurd (false≢true e)))
 
   refused-added : (o : Object) (named : Named) (r : Added) → ListAdds (s .fdt) (request-of o) (own-of (request-of o .own) (s .fdt .settings .sizes)) named r
       → refuses (add-answer (r .answer)) → with-list s (r .fdt) ≡ s

@@ -18,6 +18,7 @@ use Rattle.sizes.specs.declared.toiallocator.ToiAllocator.{ToiAllocator}
 use Rattle.sizes.specs.declared.toiallocator.ToiMaxLength.{ToiMaxLength}
 use Rattle.sizes.specs.declared.toiallocator.ToiMaxLength.the-variants.{ToiMax16, ToiMax32, ToiMax48, ToiMax64}
 use Rattle.sizes.proofs.Tests.{Tested, pass, fail, tested}
+use Rattle.sizes.proofs.AllocatorViews.{opened-view, opened-next}
 use Rattle.lifecycle.specs.Lifecycle as Life
 use Rattle.lifecycle.specs.Setup.{sound, widths}
 use Rattle.lifecycle.specs.FdtCalls.{sends, used, opening-fdt}
@@ -202,22 +203,24 @@ module _ (z : Setup) (long : length (z .priorities) ≡ most-sessions) (ok : sou
   opened-list = opening-list (settings-of z) (Alloc.new-allocator (z .width) (z .«first_toi»)) (z .«first_fdt_id»)
 
   desk-opened : desk-of (opening-sender z) ≡ Def.opening (setup-said z)
-  unfolding desk-of opening-sender Def.opening Alloc.new-allocator
+  unfolding desk-of opening-sender Def.opening
   desk-opened =
       let o = opened-list in
       let q : (if leb (z .count) most-sessions then take (z .count) (z .priorities) else replicate (z .count) 0) ≡ take (z .count) (z .priorities) = rw (le-leb (z .count) most-sessions few) in
       let e = named (opening-sender z .fdt .slots) (z .priorities) (z .count) long few ∙ sym (ap (map (λ p. record { priority = p; hand = none })) q) in
+      let n = ap (λ (a : ToiAllocator). a .next) (o .tois) ∙ opened-next (z .width) (z .«first_toi») .0 in
+      let l = ap Alloc.loose (o .tois) ∙ opened-view (z .width) (z .«first_toi») .0 in
       λ i. record {
         complete = o .complete i;
-        next = o .tois i .next;
-        loose = Alloc.loose (o .tois i);
+        next = n i;
+        loose = l i;
         queue = map object-of (o .queue i);
         sessions = e i;
         fdt = record { state = o .side i; hand = none };
       }
 
   agrees-opened : Agrees (setup-said z) (opening-sender z)
-  unfolding opening-sender Alloc.new-allocator
+  unfolding opening-sender
   agrees-opened =
       let x = sym (opened-list .settings) in
       record {
@@ -225,7 +228,7 @@ module _ (z : Setup) (long : length (z .priorities) ≡ most-sessions) (ok : sou
         sizes = ap (λ (x : Settings). x .sizes) x;
         object-store = ap (λ (x : Settings). x .«object_store») x;
         fdt-store = ap (λ (x : Settings). x .«fdt_store») x;
-        width = sym (ap (λ (a : ToiAllocator). a .width) (opened-list .tois));
+        width = sym (ap (λ (a : ToiAllocator). a .width) (opened-list .tois) ∙ opened-next (z .width) (z .«first_toi») .1);
         carousel = by-carousel (z .carousel) ∙ ap fdt-carousel-of x;
         validity = ap (λ (x : Settings). x .validity) x;
       }
