@@ -375,12 +375,12 @@ fn read_trigger(line: &[u8], from: usize) -> Command {
 struct Priorities {
     ok: bool,
     fits: bool,
-    p: [u32; 4],
+    p: [u32; MOST_SESSIONS],
     next: usize,
 }
 
 fn next_priorities(line: &[u8], from: usize, count: u64) -> Priorities {
-    let mut p = [0u32; 4];
+    let mut p = [0u32; MOST_SESSIONS];
     let mut kept = 0;
     let mut fits = 0 < count;
     let mut next = from;
@@ -506,7 +506,7 @@ fn read_setup(line: &[u8], from: usize) -> Command {
 // A set-up of E B W N, the priorities, WIDTH TOI ID VALIDITY, the carousel, and OBJECTS FDTS.
 fn opening_of(
     a: [u64; 6],
-    p: [u32; 4],
+    p: [u32; MOST_SESSIONS],
     m: [u64; 6],
     carousel: FdtCarousel,
     s: [u64; 6],

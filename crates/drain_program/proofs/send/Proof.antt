@@ -55,20 +55,6 @@ returns c = search needs
 
 pub send-spec : {M : Type 1} → statement M
 send-spec =
-    tie.close
-    (tie.spec
-    Inv-loop
-    μ-loop
-    large-buffer-requires
-    slice-aggregate-out
-    loop-holds
-    turn-requires
-    is-over-requires
-    make-room-requires
-    put-line-requires
-    sub-turns
-    loop-less
-    loop-again
-    part-requires
-    write-all-requires
-    returns)
+    tie.close (tie.spec
+    Inv-loop μ-loop large-buffer-requires slice-aggregate-out loop-holds turn-requires is-over-requires make-room-requires put-line-requires
+    sub-turns loop-less loop-again part-requires write-all-requires returns)

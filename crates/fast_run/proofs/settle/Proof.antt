@@ -4,20 +4,11 @@ use Rattle.fast_run.proofs.Cases.{idles, waits, early, ends, sends}
 use Rattle.fast_run.proofs.settle.Statement.{statement}
 use Rattle.fast_run.proofs.settle.Tie as tie
 
-nothing-requires : tie.Need-nothing-requires
-nothing-requires c κs = search needs
-
 returns : tie.Need-returns
 returns c =
     let e = c .before .before in
     let a = e .before .args in
     c .nothing .ensures ∙ sym (waits (a .waiting) (a .now) (a .t) (a .x) (e .if1 .taken) (c .before .if2 .taken))
-
-is-early-requires : tie.Need-is-early-requires
-is-early-requires c κs = search needs
-
-nothing-requires-2 : tie.Need-nothing-requires-2
-nothing-requires-2 c κs = search needs
 
 returns-2 : tie.Need-returns-2
 returns-2 c =
@@ -27,20 +18,11 @@ returns-2 c =
     let a = e .before .args in
     c .nothing2 .ensures ∙ sym (early (a .waiting) (a .now) (a .t) (a .x) (e .if1 .taken) (z .if2 .left) (sym (y .is-early .ensures) ∙ c .before .if3 .taken))
 
-is-forced-requires : tie.Need-is-forced-requires
-is-forced-requires c κs = search needs
-
 read-requires : tie.Need-read-requires
 read-requires c κs = let e = c .before .before .before .before .before in e .before .pre .busy (e .if1 .taken)
 
-enum-known-answer : tie.Need-enum-known-answer
-enum-known-answer c = search needs
-
 enum-told : tie.Need-enum-told
 enum-told c = search needs
-
-nothing-requires-3 : tie.Need-nothing-requires-3
-nothing-requires-3 c κs = search needs
 
 returns-3 : tie.Need-returns-3
 returns-3 c =
@@ -52,12 +34,6 @@ returns-3 c =
     let a = e .before .args in
     c .nothing3 .ensures
     ∙ sym (ends (a .waiting) (a .now) (a .t) (a .x) (e .if1 .taken) (z .if2 .left) (sym (y .is-early .ensures) ∙ u .before .if3 .left) (u .is-forced .result) (u .is-forced .ensures) (r .read .result) (r .read .ensures .exact) (c .before .enum-told .given .1))
-
-ticked-requires : tie.Need-ticked-requires
-ticked-requires c κs = search needs
-
-one-requires : tie.Need-one-requires
-one-requires c κs = search needs
 
 returns-4 : tie.Need-returns-4
 returns-4 c =
@@ -71,9 +47,6 @@ returns-4 c =
     c .one .ensures ∙ rw (c .before .ticked .ensures)
     (sym (sends (a .waiting) (a .now) (a .t) (a .x) (e .if1 .taken) (z .if2 .left) (sym (y .is-early .ensures) ∙ u .before .if3 .left) (u .is-forced .result) (u .is-forced .ensures) (r .read .result) (r .read .ensures .exact) _ (k .answer .given .1)))
 
-nothing-requires-4 : tie.Need-nothing-requires-4
-nothing-requires-4 c κs = search needs
-
 returns-5 : tie.Need-returns-5
 returns-5 c =
     let e = c .before in
@@ -82,21 +55,7 @@ returns-5 c =
 
 pub settle-spec : {M : Type 1} → statement M
 settle-spec =
-    tie.close
-    (tie.spec
-    nothing-requires
-    returns
-    is-early-requires
-    nothing-requires-2
-    returns-2
-    is-forced-requires
-    read-requires
-    enum-known-answer
-    enum-told
-    nothing-requires-3
-    returns-3
-    ticked-requires
-    one-requires
-    returns-4
-    nothing-requires-4
+    tie.close (tie.spec
+    (λ c κs. search needs) returns (λ c κs. search needs) (λ c κs. search needs) returns-2 (λ c κs. search needs) read-requires
+    (λ c. search needs) enum-told (λ c κs. search needs) returns-3 (λ c κs. search needs) (λ c κs. search needs) returns-4 (λ c κs. search needs)
     returns-5)

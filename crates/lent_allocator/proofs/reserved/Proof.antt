@@ -2,11 +2,8 @@ use borrow.Author.Needs.{needs}
 use Rattle.lent_allocator.proofs.reserved.Statement.{statement}
 use Rattle.lent_allocator.proofs.reserved.Tie as tie
 
-allocate-requires : tie.Need-allocate-requires
-allocate-requires c κs = search needs
-
 returns : tie.Need-returns
 returns c = c .allocate .ensures
 
 pub reserved-spec : {M : Type 1} → statement M
-reserved-spec = tie.close (tie.spec allocate-requires returns)
+reserved-spec = tie.close (tie.spec (λ c κs. search needs) returns)

@@ -17,9 +17,6 @@ id-given : (b : Bool) (k : ℕ) → (if b then k else 0) ≡ maybe 0 (λ n. n) (
 id-given true k = refl
 id-given false k = refl
 
-own-id-requires : tie.Need-own-id-requires
-own-id-requires c κs = search needs
-
 returns : tie.Need-returns
 returns c =
     let p = c .before .before .before .before .before .args .p in
@@ -37,4 +34,4 @@ returns c =
     }
 
 pub record-of-spec : {M : Type 1} → statement M
-record-of-spec = tie.close (tie.spec own-id-requires returns)
+record-of-spec = tie.close (tie.spec (λ c κs. search needs) returns)

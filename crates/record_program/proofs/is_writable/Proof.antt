@@ -7,23 +7,11 @@ use Rattle.record_program.proofs.NumberLaws.{is-done, room-told}
 use Rattle.record_program.proofs.is_writable.Statement.{statement}
 use Rattle.record_program.proofs.is_writable.Tie as tie
 
-untouched-requires : tie.Need-untouched-requires
-untouched-requires c κs = search needs
-
-slice-aggregate-buffer : tie.Need-slice-aggregate-buffer
-slice-aggregate-buffer c = search needs
-
 slice-aggregate-write : tie.Need-slice-aggregate-write
 slice-aggregate-write c = sym (length-take-le _ _ (omega arith))
 
-write-requires : tie.Need-write-requires
-write-requires c κs = search needs
-
 enum-told : tie.Need-enum-told
 enum-told c = search needs
-
-enum-told-2 : tie.Need-enum-told-2
-enum-told-2 c = search needs
 
 returns : tie.Need-returns
 returns c = ap is-done (sym (c .enum-told2 .given .1)) ∙ room-told (c .before .before .before .write .ensures) (length-take-le _ _ (omega arith))
@@ -33,13 +21,5 @@ returns-2 c = ap is-done (sym (c .enum-told .given .1)) ∙ room-told (c .before
 
 pub is-writable-spec : {M : Type 1} → statement M
 is-writable-spec =
-    tie.close
-    (tie.spec
-    untouched-requires
-    slice-aggregate-buffer
-    slice-aggregate-write
-    write-requires
-    enum-told
-    enum-told-2
-    returns
-    returns-2)
+    tie.close (tie.spec
+    (λ c κs. search needs) (λ c. search needs) slice-aggregate-write (λ c κs. search needs) enum-told (λ c. search needs) returns returns-2)

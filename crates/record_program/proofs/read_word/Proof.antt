@@ -33,15 +33,6 @@ module _ {w out : List ℕ} {r : Spelled} (h : HexRead w out r) where
       let front = part-in 0 n out zero-le low ∙ ap (λ k. take k out) (sub-zero n) in
       ap some (f .answer ∙ ap read-answer (p ∙ front)) ∙ ap shown (ap (spelled-said out) (sym e) ∙ h .exact)
 
-slice-aggregate-buffer : tie.Need-slice-aggregate-buffer
-slice-aggregate-buffer c = search needs
-
-read-hex-requires : tie.Need-read-hex-requires
-read-hex-requires c κs = search needs
-
-enum-known-n : tie.Need-enum-known-n
-enum-known-n c = search needs
-
 enum-told : tie.Need-enum-told
 enum-told c = search needs
 
@@ -49,12 +40,6 @@ returns : tie.Need-returns
 returns c = λ short.
     let told = c .before in
     spells-none (told .before .before .before .before .read-hex .ensures (omega arith)) (told .enum-told .given .1)
-
-part-requires : tie.Need-part-requires
-part-requires c κs = search needs
-
-read-requires : tie.Need-read-requires
-read-requires c κs = search needs
 
 returns-2 : tie.Need-returns-2
 returns-2 c = λ short.
@@ -64,13 +49,5 @@ returns-2 c = λ short.
 
 pub read-word-spec : {M : Type 1} → statement M
 read-word-spec =
-    tie.close
-    (tie.spec
-    slice-aggregate-buffer
-    read-hex-requires
-    enum-known-n
-    enum-told
-    returns
-    part-requires
-    read-requires
-    returns-2)
+    tie.close (tie.spec
+    (λ c. search needs) (λ c κs. search needs) (λ c. search needs) enum-told returns (λ c κs. search needs) (λ c κs. search needs) returns-2)

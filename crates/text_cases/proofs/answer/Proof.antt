@@ -34,14 +34,4 @@ returns c = tt
 
 pub answer-spec : {M : Type 1} → statement M
 answer-spec =
-    tie.close
-    (tie.spec
-    Inv-loop
-    μ-loop
-    loop-holds
-    write-next-requires
-    loop-less
-    loop-again
-    slice-aggregate-write-all
-    write-all-requires
-    returns)
+    tie.close (tie.spec Inv-loop μ-loop loop-holds write-next-requires loop-less loop-again slice-aggregate-write-all write-all-requires returns)

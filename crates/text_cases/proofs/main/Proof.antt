@@ -14,17 +14,6 @@ loop-less c = c .before .before .next-line .ensures .less (search needs)
 
 pub main-spec : {M : Type 1} → statement M
 main-spec =
-    tie.close
-    (tie.spec
-    Inv-loop
-    μ-loop
-    (λ c κs. search needs)
-    (λ c. search needs)
-    (λ c κs. search needs)
-    (λ c. tt)
-    (λ c κs. search needs)
-    (λ c κs. search needs)
-    (λ c κs. search needs)
-    loop-less
-    (λ c. tt)
-    (λ c. tt))
+    tie.close (tie.spec
+    Inv-loop μ-loop (λ c κs. search needs) (λ c. search needs) (λ c κs. search needs) (λ c. tt) (λ c κs. search needs) (λ c κs. search needs)
+    (λ c κs. search needs) loop-less (λ c. tt) (λ c. tt))

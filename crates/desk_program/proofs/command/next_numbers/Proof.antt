@@ -43,17 +43,5 @@ returns-2 c = search needs
 
 pub next-numbers-spec : {M : Type 1} → statement M
 next-numbers-spec =
-    tie.close
-    (tie.spec
-    Inv-loop
-    μ-loop
-    loop-holds
-    next-number-requires
-    enum-known-value
-    returns
-    mul-all
-    array-write-all
-    add-count
-    loop-less
-    loop-again
-    returns-2)
+    tie.close (tie.spec
+    Inv-loop μ-loop loop-holds next-number-requires enum-known-value returns mul-all array-write-all add-count loop-less loop-again returns-2)

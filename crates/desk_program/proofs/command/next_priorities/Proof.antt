@@ -49,19 +49,6 @@ returns-2 c = search needs
 
 pub next-priorities-spec : {M : Type 1} → statement M
 next-priorities-spec =
-    tie.close
-    (tie.spec
-    Inv-loop
-    μ-loop
-    loop-holds
-    next-number-requires
-    enum-known-value
-    returns
-    cast-p
-    mul-p
-    array-write-p
-    add-kept
-    sub-left
-    loop-less
-    loop-again
+    tie.close (tie.spec
+    Inv-loop μ-loop loop-holds next-number-requires enum-known-value returns cast-p mul-p array-write-p add-kept sub-left loop-less loop-again
     returns-2)

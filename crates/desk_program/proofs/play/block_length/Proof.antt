@@ -7,16 +7,10 @@ use Rattle.desk_program.specs.Replies.{length-shown}
 use Rattle.desk_program.proofs.play.block_length.Statement.{statement}
 use Rattle.desk_program.proofs.play.block_length.Tie as tie
 
-block-partitioning-requires : tie.Need-block-partitioning-requires
-block-partitioning-requires c κs = search needs
-
-raw-length-requires : tie.Need-raw-length-requires
-raw-length-requires c κs = search needs
-
 returns : tie.Need-returns
 returns c =
     let a = c .before .before .args in
     c .raw-length .ensures ∙ ap (λ (p : Partition). length-shown (block-length (sizes-given (p .large) (p .small) (p .«nb_a_large»)) (a .l) (a .e) (a .sbn))) (c .before .block-partitioning .ensures)
 
 pub block-length-spec : {M : Type 1} → statement M
-block-length-spec = tie.close (tie.spec block-partitioning-requires raw-length-requires returns)
+block-length-spec = tie.close (tie.spec (λ c κs. search needs) (λ c κs. search needs) returns)

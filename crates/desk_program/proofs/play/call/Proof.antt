@@ -10,78 +10,6 @@ use Rattle.desk_program.proofs.play.call.Tie as tie
 enum-told : tie.Need-enum-told
 enum-told c = search needs
 
-reserve-requires : tie.Need-reserve-requires
-reserve-requires c κs = search needs
-
-enum-known-c : tie.Need-enum-known-c
-enum-known-c c = search needs
-
-release-requires : tie.Need-release-requires
-release-requires c κs = search needs
-
-enum-known-c-2 : tie.Need-enum-known-c-2
-enum-known-c-2 c = search needs
-
-add-requires : tie.Need-add-requires
-add-requires c κs = search needs
-
-enum-told-2 : tie.Need-enum-told-2
-enum-told-2 c = search needs
-
-replied-requires : tie.Need-replied-requires
-replied-requires c κs = search needs
-
-enum-known-c-3 : tie.Need-enum-known-c-3
-enum-known-c-3 c = search needs
-
-remove-requires : tie.Need-remove-requires
-remove-requires c κs = search needs
-
-enum-known-c-4 : tie.Need-enum-known-c-4
-enum-known-c-4 c = search needs
-
-trigger-requires : tie.Need-trigger-requires
-trigger-requires c κs = search needs
-
-enum-known-c-5 : tie.Need-enum-known-c-5
-enum-known-c-5 c = search needs
-
-publish-requires : tie.Need-publish-requires
-publish-requires c κs = search needs
-
-enum-told-3 : tie.Need-enum-told-3
-enum-told-3 c = search needs
-
-complete-requires : tie.Need-complete-requires
-complete-requires c κs = search needs
-
-enum-known-c-6 : tie.Need-enum-known-c-6
-enum-known-c-6 c = search needs
-
-listed-requires : tie.Need-listed-requires
-listed-requires c κs = search needs
-
-enum-known-c-7 : tie.Need-enum-known-c-7
-enum-known-c-7 c = search needs
-
-transfers-requires : tie.Need-transfers-requires
-transfers-requires c κs = search needs
-
-enum-known-c-8 : tie.Need-enum-known-c-8
-enum-known-c-8 c = search needs
-
-run-fdt-requires : tie.Need-run-fdt-requires
-run-fdt-requires c κs = search needs
-
-enum-known-c-9 : tie.Need-enum-known-c-9
-enum-known-c-9 c = search needs
-
-run-requires : tie.Need-run-requires
-run-requires c κs = search needs
-
-replied-requires-2 : tie.Need-replied-requires-2
-replied-requires-2 c κs = search needs
-
 returns : tie.Need-returns
 returns c = calls-of (ap call-of (c .before .enum-told .given .1)) (c .reserve .ensures)
 
@@ -123,43 +51,9 @@ returns-13 c = calls-none _ _ (asks-none (c .before .before .args .c) (c .before
 
 pub call-spec : {M : Type 1} → statement M
 call-spec =
-    tie.close
-    (tie.spec
-    enum-told
-    reserve-requires
-    enum-known-c
-    release-requires
-    enum-known-c-2
-    add-requires
-    enum-told-2
-    replied-requires
-    enum-known-c-3
-    remove-requires
-    enum-known-c-4
-    trigger-requires
-    enum-known-c-5
-    publish-requires
-    enum-told-3
-    complete-requires
-    enum-known-c-6
-    listed-requires
-    enum-known-c-7
-    transfers-requires
-    enum-known-c-8
-    run-fdt-requires
-    enum-known-c-9
-    run-requires
-    replied-requires-2
-    returns
-    returns-2
-    returns-3
-    returns-4
-    returns-5
-    returns-6
-    returns-7
-    returns-8
-    returns-9
-    returns-10
-    returns-11
-    returns-12
-    returns-13)
+    tie.close (tie.spec
+    enum-told (λ c κs. search needs) (λ c. search needs) (λ c κs. search needs) (λ c. search needs) (λ c κs. search needs) (λ c. search needs)
+    (λ c κs. search needs) (λ c. search needs) (λ c κs. search needs) (λ c. search needs) (λ c κs. search needs) (λ c. search needs)
+    (λ c κs. search needs) (λ c. search needs) (λ c κs. search needs) (λ c. search needs) (λ c κs. search needs) (λ c. search needs)
+    (λ c κs. search needs) (λ c. search needs) (λ c κs. search needs) (λ c. search needs) (λ c κs. search needs) (λ c κs. search needs) returns
+    returns-2 returns-3 returns-4 returns-5 returns-6 returns-7 returns-8 returns-9 returns-10 returns-11 returns-12 returns-13)

@@ -11,84 +11,6 @@ use Rattle.desk_program.proofs.play.play.Tie as tie
 enum-told : tie.Need-enum-told
 enum-told c = search needs
 
-replied-requires : tie.Need-replied-requires
-replied-requires c κs = search needs
-
-enum-told-2 : tie.Need-enum-told-2
-enum-told-2 c = search needs
-
-replied-requires-2 : tie.Need-replied-requires-2
-replied-requires-2 c κs = search needs
-
-enum-known-c : tie.Need-enum-known-c
-enum-known-c c = search needs
-
-setup-of-requires : tie.Need-setup-of-requires
-setup-of-requires c κs = search needs
-
-set-up-requires : tie.Need-set-up-requires
-set-up-requires c κs = search needs
-
-enum-told-3 : tie.Need-enum-told-3
-enum-told-3 c = search needs
-
-shut-requires : tie.Need-shut-requires
-shut-requires c κs = search needs
-
-enum-known-c-2 : tie.Need-enum-known-c-2
-enum-known-c-2 c = search needs
-
-partition-requires : tie.Need-partition-requires
-partition-requires c κs = search needs
-
-replied-requires-3 : tie.Need-replied-requires-3
-replied-requires-3 c κs = search needs
-
-enum-known-c-3 : tie.Need-enum-known-c-3
-enum-known-c-3 c = search needs
-
-block-length-requires : tie.Need-block-length-requires
-block-length-requires c κs = search needs
-
-replied-requires-4 : tie.Need-replied-requires-4
-replied-requires-4 c κs = search needs
-
-enum-known-c-4 : tie.Need-enum-known-c-4
-enum-known-c-4 c = search needs
-
-raw-length-requires : tie.Need-raw-length-requires
-raw-length-requires c κs = search needs
-
-replied-requires-5 : tie.Need-replied-requires-5
-replied-requires-5 c κs = search needs
-
-enum-known-c-5 : tie.Need-enum-known-c-5
-enum-known-c-5 c = search needs
-
-replied-requires-6 : tie.Need-replied-requires-6
-replied-requires-6 c κs = search needs
-
-enum-known-c-6 : tie.Need-enum-known-c-6
-enum-known-c-6 c = search needs
-
-record-reply-requires : tie.Need-record-reply-requires
-record-reply-requires c κs = search needs
-
-replied-requires-7 : tie.Need-replied-requires-7
-replied-requires-7 c κs = search needs
-
-enum-known-c-7 : tie.Need-enum-known-c-7
-enum-known-c-7 c = search needs
-
-reading-reply-requires : tie.Need-reading-reply-requires
-reading-reply-requires c κs = search needs
-
-replied-requires-8 : tie.Need-replied-requires-8
-replied-requires-8 c κs = search needs
-
-called-requires : tie.Need-called-requires
-called-requires c κs = search needs
-
 returns : tie.Need-returns
 returns c =
     let m = c .before .before in (
@@ -176,43 +98,10 @@ returns-11 c =
 
 pub play-spec : {M : Type 1} → statement M
 play-spec =
-    tie.close
-    (tie.spec
-    enum-told
-    replied-requires
-    enum-told-2
-    replied-requires-2
-    enum-known-c
-    setup-of-requires
-    set-up-requires
-    enum-told-3
-    shut-requires
-    enum-known-c-2
-    partition-requires
-    replied-requires-3
-    enum-known-c-3
-    block-length-requires
-    replied-requires-4
-    enum-known-c-4
-    raw-length-requires
-    replied-requires-5
-    enum-known-c-5
-    replied-requires-6
-    enum-known-c-6
-    record-reply-requires
-    replied-requires-7
-    enum-known-c-7
-    reading-reply-requires
-    replied-requires-8
-    called-requires
-    returns
-    returns-2
-    returns-3
-    returns-4
-    returns-5
-    returns-6
-    returns-7
-    returns-8
-    returns-9
-    returns-10
-    returns-11)
+    tie.close (tie.spec
+    enum-told (λ c κs. search needs) (λ c. search needs) (λ c κs. search needs) (λ c. search needs) (λ c κs. search needs) (λ c κs. search needs)
+    (λ c. search needs) (λ c κs. search needs) (λ c. search needs) (λ c κs. search needs) (λ c κs. search needs) (λ c. search needs)
+    (λ c κs. search needs) (λ c κs. search needs) (λ c. search needs) (λ c κs. search needs) (λ c κs. search needs) (λ c. search needs)
+    (λ c κs. search needs) (λ c. search needs) (λ c κs. search needs) (λ c κs. search needs) (λ c. search needs) (λ c κs. search needs)
+    (λ c κs. search needs) (λ c κs. search needs) returns returns-2 returns-3 returns-4 returns-5 returns-6 returns-7 returns-8 returns-9
+    returns-10 returns-11)

@@ -3,14 +3,8 @@ use borrow.Author.Needs.{needs}
 use Rattle.desk_program.proofs.reply.fdt_reply.Statement.{statement}
 use Rattle.desk_program.proofs.reply.fdt_reply.Tie as tie
 
-enum-known-a : tie.Need-enum-known-a
-enum-known-a c = search needs
-
 enum-told : tie.Need-enum-told
 enum-told c = search needs
-
-enum-known-a-2 : tie.Need-enum-known-a-2
-enum-known-a-2 c = search needs
 
 returns : tie.Need-returns
 returns c = rw (c .before .a .given .1)
@@ -22,4 +16,4 @@ returns-3 : tie.Need-returns-3
 returns-3 c = rw (c .before .a2 .given .1)
 
 pub fdt-reply-spec : {M : Type 1} → statement M
-fdt-reply-spec = tie.close (tie.spec enum-known-a enum-told enum-known-a-2 returns returns-2 returns-3)
+fdt-reply-spec = tie.close (tie.spec (λ c. search needs) enum-told (λ c. search needs) returns returns-2 returns-3)

@@ -3,9 +3,6 @@ use borrow.Author.Needs.{needs}
 use Rattle.desk_program.proofs.reply.reading_reply.Statement.{statement}
 use Rattle.desk_program.proofs.reply.reading_reply.Tie as tie
 
-enum-known-a : tie.Need-enum-known-a
-enum-known-a c = search needs
-
 enum-told : tie.Need-enum-told
 enum-told c = search needs
 
@@ -16,4 +13,4 @@ returns-2 : tie.Need-returns-2
 returns-2 c = rw (c .enum-told .given .1)
 
 pub reading-reply-spec : {M : Type 1} → statement M
-reading-reply-spec = tie.close (tie.spec enum-known-a enum-told returns returns-2)
+reading-reply-spec = tie.close (tie.spec (λ c. search needs) enum-told returns returns-2)

@@ -4,9 +4,6 @@ use borrow.Author.Needs.{needs}
 use Rattle.desk_program.proofs.reply.record_reply.Statement.{statement}
 use Rattle.desk_program.proofs.reply.record_reply.Tie as tie
 
-is-writable-requires : tie.Need-is-writable-requires
-is-writable-requires c κs = search needs
-
 returns : tie.Need-returns
 returns c = rw (sym (c .before .is-writable .ensures) ∙ c .if1 .taken)
 
@@ -14,4 +11,4 @@ returns-2 : tie.Need-returns-2
 returns-2 c = rw (sym (c .before .is-writable .ensures) ∙ c .if1 .left)
 
 pub record-reply-spec : {M : Type 1} → statement M
-record-reply-spec = tie.close (tie.spec is-writable-requires returns returns-2)
+record-reply-spec = tie.close (tie.spec (λ c κs. search needs) returns returns-2)

@@ -45,15 +45,4 @@ returns c =
     sym (sum-end bytes (c .before .loop .i) (c .before .loop .sum) (search needs)) ∙ c .before .loop .inv .2
 
 pub checksum-spec : {M : Type 1} → statement M
-checksum-spec =
-    tie.close
-    (tie.spec
-    Inv-loop
-    μ-loop
-    loop-holds
-    shared-slice-read-with-byte
-    with-byte-requires
-    add-i
-    loop-less
-    loop-again
-    returns)
+checksum-spec = tie.close (tie.spec Inv-loop μ-loop loop-holds shared-slice-read-with-byte with-byte-requires add-i loop-less loop-again returns)

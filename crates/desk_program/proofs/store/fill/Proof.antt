@@ -47,16 +47,4 @@ unfolding Filled
 returns c = λ k h. c .before .loop .inv .2 k (omega arith)
 
 pub fill-spec : {M : Type 1} → statement M
-fill-spec =
-    tie.close
-    (tie.spec
-    Inv-loop
-    μ-loop
-    loop-holds
-    store-byte-requires
-    slice-write-store
-    add-i
-    loop-less
-    loop-again
-    same-length
-    returns)
+fill-spec = tie.close (tie.spec Inv-loop μ-loop loop-holds store-byte-requires slice-write-store add-i loop-less loop-again same-length returns)

@@ -4,15 +4,9 @@ use Rattle.desk_program.specs.Stores.{nearer-of}
 use Rattle.desk_program.proofs.store.nearer.Statement.{statement}
 use Rattle.desk_program.proofs.store.nearer.Tie as tie
 
-period-requires : tie.Need-period-requires
-period-requires c κs = search needs
-
-rem-t4 : tie.Need-rem-t4
-rem-t4 c = search needs
-
 returns : tie.Need-returns
 unfolding nearer-of
 returns c = rw (c .before .period .ensures .0)
 
 pub nearer-spec : {M : Type 1} → statement M
-nearer-spec = tie.close (tie.spec period-requires rem-t4 returns)
+nearer-spec = tie.close (tie.spec (λ c κs. search needs) (λ c. search needs) returns)

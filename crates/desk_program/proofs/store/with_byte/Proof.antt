@@ -6,18 +6,9 @@ use Rattle.desk_program.specs.Stores.{sum-with}
 use Rattle.desk_program.proofs.store.with_byte.Statement.{statement}
 use Rattle.desk_program.proofs.store.with_byte.Tie as tie
 
-mul-result : tie.Need-mul-result
-mul-result c = search needs
-
-add-result : tie.Need-add-result
-add-result c = search needs
-
-add-result-2 : tie.Need-add-result-2
-add-result-2 c = search needs
-
 returns : tie.Need-returns
 unfolding sum-with
 returns c = (refl, omega arith)
 
 pub with-byte-spec : {M : Type 1} → statement M
-with-byte-spec = tie.close (tie.spec mul-result add-result add-result-2 returns)
+with-byte-spec = tie.close (tie.spec (λ c. search needs) (λ c. search needs) (λ c. search needs) returns)

@@ -9,21 +9,12 @@ use borrow.Author.Needs.{needs}
 use Rattle.drain_program.proofs.drain.begin.Statement.{statement}
 use Rattle.drain_program.proofs.drain.begin.Tie as tie
 
-is-refused-requires : tie.Need-is-refused-requires
-is-refused-requires c κs = search needs
-
-new-requires : tie.Need-new-requires
-new-requires c κs = search needs
-
 returns : tie.Need-returns
 returns c =
     let e = c .new .ensures in
     let h = sym (c .before .before .is-refused .ensures) ∙ c .before .if1 .taken in
     let f : BlockEncoder → Begun = λ x. record { ok = false; encoder = x } in
     record { exact = rw h (ap f e); valid = subst ValidEncoder (sym e) (begun-valid 0 1 1 1 nothing-admitted) }
-
-new-requires-2 : tie.Need-new-requires-2
-new-requires-2 c κs = search needs
 
 returns-2 : tie.Need-returns-2
 returns-2 c =
@@ -34,4 +25,4 @@ returns-2 c =
     record { exact = rw h (ap f e); valid = subst ValidEncoder (sym e) (begun-valid (a .l) (a .e) (a .b) (a .w) h) }
 
 pub begin-spec : {M : Type 1} → statement M
-begin-spec = tie.close (tie.spec is-refused-requires new-requires returns new-requires-2 returns-2)
+begin-spec = tie.close (tie.spec (λ c κs. search needs) (λ c κs. search needs) returns (λ c κs. search needs) returns-2)

@@ -8,9 +8,6 @@ use borrow.Author.Needs.{needs}
 use Rattle.drain_program.proofs.drain.block_start.Statement.{statement}
 use Rattle.drain_program.proofs.drain.block_start.Tie as tie
 
-cast-n : tie.Need-cast-n
-cast-n c = search needs
-
 mul-result : tie.Need-mul-result
 mul-result c =
     let s = c .before .before .before .before .before in
@@ -85,14 +82,4 @@ returns-2 c =
 
 pub block-start-spec : {M : Type 1} → statement M
 block-start-spec =
-    tie.close
-    (tie.spec
-    cast-n
-    mul-result
-    add-result
-    mul-result-2
-    returns
-    mul-result-3
-    add-result-2
-    mul-result-4
-    returns-2)
+    tie.close (tie.spec (λ c. search needs) mul-result add-result mul-result-2 returns mul-result-3 add-result-2 mul-result-4 returns-2)

@@ -14,12 +14,8 @@ returns-2 c = let a = c .before .before .args in sym (wide-window (a .l) (a .e) 
 returns-3 : tie.Need-returns-3
 returns-3 c = let a = c .before .before .before .args in sym (too-long (a .l) (a .e) (a .b) (a .w) (c .before .before .if1 .left) (c .before .if2 .left) (c .if3 .taken))
 
-are-bad-blocks-requires : tie.Need-are-bad-blocks-requires
-are-bad-blocks-requires c κs = search needs
-
 returns-4 : tie.Need-returns-4
 returns-4 c = let a = c .before .before .before .before .args in c .are-bad-blocks .ensures ∙ sym (by-blocks (a .l) (a .e) (a .b) (a .w) (c .before .before .before .if1 .left) (c .before .before .if2 .left) (c .before .if3 .left))
 
 pub is-refused-spec : {M : Type 1} → statement M
-is-refused-spec =
-    tie.close (tie.spec returns returns-2 returns-3 are-bad-blocks-requires returns-4)
+is-refused-spec = tie.close (tie.spec returns returns-2 returns-3 (λ c κs. search needs) returns-4)

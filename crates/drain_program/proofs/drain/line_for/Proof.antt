@@ -11,9 +11,6 @@ use Rattle.drain_program.proofs.drain.line_for.Tie as tie
 block-start-requires : tie.Need-block-start-requires
 block-start-requires c κs = let s = c .before .before in (s .pre .0, start-of (s .args .c) (s .pre .0) (s .args .s) (s .pre .1) .fits)
 
-cast-t7 : tie.Need-cast-t7
-cast-t7 c = search needs
-
 mul-t8 : tie.Need-mul-t8
 mul-t8 c =
     let s = c .before .before .before .before in
@@ -35,4 +32,4 @@ returns c =
     ap (λ n. Packet (y .sbn) (y .esi) (y .symbols) n (y .payload .size) (y .close)) e
 
 pub line-for-spec : {M : Type 1} → statement M
-line-for-spec = tie.close (tie.spec block-start-requires cast-t7 mul-t8 add-t9 returns)
+line-for-spec = tie.close (tie.spec block-start-requires (λ c. search needs) mul-t8 add-t9 returns)

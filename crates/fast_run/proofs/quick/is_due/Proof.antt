@@ -11,9 +11,6 @@ returns : tie.Need-returns
 unfolding is-due
 returns c = rw (ne-eqb _ _ (c .if1 .taken))
 
-is-early-requires : tie.Need-is-early-requires
-is-early-requires c κs = search needs
-
 returns-2 : tie.Need-returns-2
 returns-2 c =
     let l = c .before .before in
@@ -29,4 +26,4 @@ unfolding is-due
 returns-4 c = rw (eq-eqb _ _ (c .before .if1 .left), c .if2 .left)
 
 pub is-due-spec : {M : Type 1} → statement M
-is-due-spec = tie.close (tie.spec returns is-early-requires returns-2 returns-3 returns-4)
+is-due-spec = tie.close (tie.spec returns (λ c κs. search needs) returns-2 returns-3 returns-4)

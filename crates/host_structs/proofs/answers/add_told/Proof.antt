@@ -4,15 +4,6 @@ use Rattle.host_structs.specs.Answers.{toi-refused, add-told}
 use Rattle.host_structs.proofs.answers.add_told.Statement.{statement}
 use Rattle.host_structs.proofs.answers.add_told.Tie as tie
 
-enum-known-a : tie.Need-enum-known-a
-enum-known-a c = search needs
-
-enum-known-a-2 : tie.Need-enum-known-a-2
-enum-known-a-2 c = search needs
-
-number-of-requires : tie.Need-number-of-requires
-number-of-requires c κs = search needs
-
 returns : tie.Need-returns
 returns c = ap add-told (sym (c .before .a .given .1))
 
@@ -20,5 +11,4 @@ returns-2 : tie.Need-returns-2
 returns-2 c = ap toi-refused (c .number-of .ensures) ∙ ap add-told (sym (c .before .before .a2 .given .1))
 
 pub add-told-spec : {M : Type 1} → statement M
-add-told-spec =
-    tie.close (tie.spec enum-known-a enum-known-a-2 number-of-requires returns returns-2)
+add-told-spec = tie.close (tie.spec (λ c. search needs) (λ c. search needs) (λ c κs. search needs) returns returns-2)

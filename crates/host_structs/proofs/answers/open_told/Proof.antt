@@ -3,9 +3,6 @@ use Rattle.host_structs.specs.Answers.{open-told}
 use Rattle.host_structs.proofs.answers.open_told.Statement.{statement}
 use Rattle.host_structs.proofs.answers.open_told.Tie as tie
 
-number-of-requires : tie.Need-number-of-requires
-number-of-requires c κs = search needs
-
 returns : tie.Need-returns
 unfolding open-told
 returns c = rw (c .if1 .taken)
@@ -15,4 +12,4 @@ unfolding open-told
 returns-2 c = rw (c .before .if1 .left) (c .number-of .ensures)
 
 pub open-told-spec : {M : Type 1} → statement M
-open-told-spec = tie.close (tie.spec number-of-requires returns returns-2)
+open-told-spec = tie.close (tie.spec (λ c κs. search needs) returns returns-2)

@@ -4,23 +4,8 @@ use Rattle.host_structs.specs.Answers.{not-sent, run-told}
 use Rattle.host_structs.proofs.answers.run_told.Statement.{statement}
 use Rattle.host_structs.proofs.answers.run_told.Tie as tie
 
-enum-known-a : tie.Need-enum-known-a
-enum-known-a c = search needs
-
 enum-told : tie.Need-enum-told
 enum-told c = search needs
-
-not-sent-requires : tie.Need-not-sent-requires
-not-sent-requires c κs = search needs
-
-enum-known-a-2 : tie.Need-enum-known-a-2
-enum-known-a-2 c = search needs
-
-number-of-requires : tie.Need-number-of-requires
-number-of-requires c κs = search needs
-
-not-sent-requires-2 : tie.Need-not-sent-requires-2
-not-sent-requires-2 c κs = search needs
 
 returns : tie.Need-returns
 returns c = ap (run-told _) (sym (c .before .a .given .1))
@@ -33,14 +18,6 @@ returns-3 c = c .not-sent2 .ensures ∙ ap (λ n. not-sent n (c .before .before 
 
 pub run-told-spec : {M : Type 1} → statement M
 run-told-spec =
-    tie.close
-    (tie.spec
-    enum-known-a
-    enum-told
-    not-sent-requires
-    enum-known-a-2
-    number-of-requires
-    not-sent-requires-2
-    returns
-    returns-2
+    tie.close (tie.spec
+    (λ c. search needs) enum-told (λ c κs. search needs) (λ c. search needs) (λ c κs. search needs) (λ c κs. search needs) returns returns-2
     returns-3)

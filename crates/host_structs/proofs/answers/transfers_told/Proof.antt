@@ -4,9 +4,6 @@ use borrow.Author.Needs.{needs}
 use Rattle.host_structs.proofs.answers.transfers_told.Statement.{statement}
 use Rattle.host_structs.proofs.answers.transfers_told.Tie as tie
 
-enum-known-a : tie.Need-enum-known-a
-enum-known-a c = search needs
-
 enum-told : tie.Need-enum-told
 enum-told c = search needs
 
@@ -17,4 +14,4 @@ returns-2 : tie.Need-returns-2
 returns-2 c = ap transfers-told (sym (c .enum-told .given .1))
 
 pub transfers-told-spec : {M : Type 1} → statement M
-transfers-told-spec = tie.close (tie.spec enum-known-a enum-told returns returns-2)
+transfers-told-spec = tie.close (tie.spec (λ c. search needs) enum-told returns returns-2)

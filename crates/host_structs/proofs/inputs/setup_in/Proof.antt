@@ -2,11 +2,8 @@ use borrow.Author.Needs.{needs}
 use Rattle.host_structs.proofs.inputs.setup_in.Statement.{statement}
 use Rattle.host_structs.proofs.inputs.setup_in.Tie as tie
 
-fdt-carousel-in-requires : tie.Need-fdt-carousel-in-requires
-fdt-carousel-in-requires c κs = search needs
-
 returns : tie.Need-returns
 returns c = rw (c .fdt-carousel-in .ensures)
 
 pub setup-in-spec : {M : Type 1} → statement M
-setup-in-spec = tie.close (tie.spec fdt-carousel-in-requires returns)
+setup-in-spec = tie.close (tie.spec (λ c κs. search needs) returns)

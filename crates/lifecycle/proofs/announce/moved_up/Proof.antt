@@ -15,19 +15,8 @@ abbrev μ-loop : tie.MeasureT-loop
 
 pub moved-up-spec : {M : Type 1} → statement M
 moved-up-spec =
-    tie.close
-    (tie.spec
-    Inv-loop
-    μ-loop
-    (λ c. closing-starts no-instance (search needs) (c .good .0 .1 .0 .1))
-    (λ c. search needs)
-    (λ c. search needs)
-    (λ c. search needs)
-    (λ c. search needs)
-    (λ c. search needs)
-    (λ c. search needs)
-    (λ c. search needs)
-    (λ c. closing-more no-instance (c .before .before .loop .inv) (omega arith))
-    (λ c κs. search needs)
-    (λ c. search needs)
+    tie.close (tie.spec
+    Inv-loop μ-loop (λ c. closing-starts no-instance (search needs) (c .good .0 .1 .0 .1)) (λ c. search needs) (λ c. search needs)
+    (λ c. search needs) (λ c. search needs) (λ c. search needs) (λ c. search needs) (λ c. search needs)
+    (λ c. closing-more no-instance (c .before .before .loop .inv) (omega arith)) (λ c κs. search needs) (λ c. search needs)
     (λ c. rw (c .no-fdt .ensures) (closing-ends no-instance (c .before .before .loop .inv) (omega arith))))

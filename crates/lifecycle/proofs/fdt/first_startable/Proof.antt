@@ -72,18 +72,5 @@ returns-2 c =
 
 pub first-startable-spec : {M : Type 1} → statement M
 first-startable-spec =
-    tie.close
-    (tie.spec
-    Inv-loop
-    μ-loop
-    loop-holds
-    mul-k
-    array-read-k
-    mul-s
-    array-copy-out-s
-    should-transfer-now-requires
-    returns
-    add-i
-    loop-less
-    loop-again
-    returns-2)
+    tie.close (tie.spec
+    Inv-loop μ-loop loop-holds mul-k array-read-k mul-s array-copy-out-s should-transfer-now-requires returns add-i loop-less loop-again returns-2)

@@ -14,18 +14,7 @@ abbrev μ-loop : tie.MeasureT-loop
 
 pub queue-closed-spec : {M : Type 1} → statement M
 queue-closed-spec =
-    tie.close
-    (tie.spec
-    Inv-loop
-    μ-loop
-    (λ c. closing-starts 0 (search needs) (c .good .0 .1 .0 .1))
-    (λ c. search needs)
-    (λ c. search needs)
-    (λ c. search needs)
-    (λ c. search needs)
-    (λ c. search needs)
-    (λ c. search needs)
-    (λ c. search needs)
-    (λ c. closing-more 0 (c .before .loop .inv) (omega arith))
-    (λ c. search needs)
-    (λ c. closing-ends 0 (c .before .loop .inv) (omega arith)))
+    tie.close (tie.spec
+    Inv-loop μ-loop (λ c. closing-starts 0 (search needs) (c .good .0 .1 .0 .1)) (λ c. search needs) (λ c. search needs) (λ c. search needs)
+    (λ c. search needs) (λ c. search needs) (λ c. search needs) (λ c. search needs) (λ c. closing-more 0 (c .before .loop .inv) (omega arith))
+    (λ c. search needs) (λ c. closing-ends 0 (c .before .loop .inv) (omega arith)))

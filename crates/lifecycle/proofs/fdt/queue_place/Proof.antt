@@ -54,16 +54,4 @@ returns-2 c =
     sym (place-end (λ k. eqb k (a .slot)) (a .queued) (a .t1) (l .loop .inv .0) (l .loop .i) (omega arith)) ∙ l .loop .inv .2
 
 pub queue-place-spec : {M : Type 1} → statement M
-queue-place-spec =
-    tie.close
-    (tie.spec
-    Inv-loop
-    μ-loop
-    loop-holds
-    mul-if1
-    array-read-if1
-    returns
-    add-i
-    loop-less
-    loop-again
-    returns-2)
+queue-place-spec = tie.close (tie.spec Inv-loop μ-loop loop-holds mul-if1 array-read-if1 returns add-i loop-less loop-again returns-2)

@@ -54,16 +54,5 @@ returns-2 c =
 
 pub any-shares-spec : {M : Type 1} → statement M
 any-shares-spec =
-    tie.close
-    (tie.spec
-    Inv-loop
-    μ-loop
-    loop-holds
-    mul-has-byte-of
-    array-copy-out-has-byte-of
-    has-byte-of-requires
-    returns
-    add-i
-    loop-less
-    loop-again
-    returns-2)
+    tie.close (tie.spec
+    Inv-loop μ-loop loop-holds mul-has-byte-of array-copy-out-has-byte-of has-byte-of-requires returns add-i loop-less loop-again returns-2)

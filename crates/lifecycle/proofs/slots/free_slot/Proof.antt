@@ -55,16 +55,5 @@ returns-2 c =
 
 pub free-slot-spec : {M : Type 1} → statement M
 free-slot-spec =
-    tie.close
-    (tie.spec
-    Inv-loop
-    μ-loop
-    loop-holds
-    mul-is-free-slot
-    array-copy-out-is-free-slot
-    is-free-slot-requires
-    returns
-    add-i
-    loop-less
-    loop-again
-    returns-2)
+    tie.close (tie.spec
+    Inv-loop μ-loop loop-holds mul-is-free-slot array-copy-out-is-free-slot is-free-slot-requires returns add-i loop-less loop-again returns-2)

@@ -55,16 +55,6 @@ returns-2 c =
 
 pub listed-slot-spec : {M : Type 1} → statement M
 listed-slot-spec =
-    tie.close
-    (tie.spec
-    Inv-loop
-    μ-loop
-    loop-holds
-    mul-is-listed-slot
-    array-copy-out-is-listed-slot
-    is-listed-slot-requires
-    returns
-    add-i
-    loop-less
-    loop-again
+    tie.close (tie.spec
+    Inv-loop μ-loop loop-holds mul-is-listed-slot array-copy-out-is-listed-slot is-listed-slot-requires returns add-i loop-less loop-again
     returns-2)

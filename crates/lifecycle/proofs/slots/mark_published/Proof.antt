@@ -51,17 +51,6 @@ returns c =
 
 pub mark-published-spec : {M : Type 1} → statement M
 mark-published-spec =
-    tie.close
-    (tie.spec
-    Inv-loop
-    μ-loop
-    loop-holds
-    mul-published
-    array-copy-out-published
-    published-requires
-    mul-out
-    array-set-from-out
-    add-k
-    loop-less
-    loop-again
+    tie.close (tie.spec
+    Inv-loop μ-loop loop-holds mul-published array-copy-out-published published-requires mul-out array-set-from-out add-k loop-less loop-again
     returns)

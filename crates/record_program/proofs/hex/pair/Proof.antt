@@ -7,27 +7,12 @@ use Rattle.record_program.specs.Hex.{pair-value}
 use Rattle.record_program.proofs.hex.pair.Statement.{statement}
 use Rattle.record_program.proofs.hex.pair.Tie as tie
 
-value-requires : tie.Need-value-requires
-value-requires c κs = search needs
-
-enum-known-high : tie.Need-enum-known-high
-enum-known-high c = search needs
-
 enum-told : tie.Need-enum-told
 enum-told c = search needs
 
 returns : tie.Need-returns
 unfolding pair-value
 returns c = rw (sym (c .before .before .value .ensures) ∙ c .enum-told .given .1)
-
-value-requires-2 : tie.Need-value-requires-2
-value-requires-2 c κs = search needs
-
-enum-known-low : tie.Need-enum-known-low
-enum-known-low c = search needs
-
-enum-told-2 : tie.Need-enum-told-2
-enum-told-2 c = search needs
 
 returns-2 : tie.Need-returns-2
 unfolding pair-value
@@ -49,16 +34,6 @@ returns-3 c =
 
 pub pair-spec : {M : Type 1} → statement M
 pair-spec =
-    tie.close
-    (tie.spec
-    value-requires
-    enum-known-high
-    enum-told
-    returns
-    value-requires-2
-    enum-known-low
-    enum-told-2
-    returns-2
-    mul-t7
-    add-t8
-    returns-3)
+    tie.close (tie.spec
+    (λ c κs. search needs) (λ c. search needs) enum-told returns (λ c κs. search needs) (λ c. search needs) (λ c. search needs) returns-2 mul-t7
+    add-t8 returns-3)

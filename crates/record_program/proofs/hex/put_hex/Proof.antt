@@ -55,15 +55,4 @@ returns c =
 
 pub put-hex-spec : {M : Type 1} → statement M
 put-hex-spec =
-    tie.close
-    (tie.spec
-    Inv-loop
-    μ-loop
-    loop-holds
-    shared-slice-read-put-byte
-    put-byte-requires
-    add-i
-    loop-less
-    loop-again
-    same-length
-    returns)
+    tie.close (tie.spec Inv-loop μ-loop loop-holds shared-slice-read-put-byte put-byte-requires add-i loop-less loop-again same-length returns)

@@ -94,26 +94,6 @@ returns-4 c =
 
 pub read-hex-spec : {M : Type 1} → statement M
 read-hex-spec =
-    tie.close
-    (tie.spec
-    Inv-loop
-    μ-loop
-    returns
-    returns-2
-    loop-holds
-    mul-pair
-    shared-slice-read-pair
-    mul-pair-2
-    add-pair
-    shared-slice-read-pair-2
-    pair-requires
-    enum-known-b
-    enum-told
-    same-length
-    returns-3
-    slice-write-out
-    add-i
-    loop-less
-    loop-again
-    same-length-2
-    returns-4)
+    tie.close (tie.spec
+    Inv-loop μ-loop returns returns-2 loop-holds mul-pair shared-slice-read-pair mul-pair-2 add-pair shared-slice-read-pair-2 pair-requires
+    enum-known-b enum-told same-length returns-3 slice-write-out add-i loop-less loop-again same-length-2 returns-4)

@@ -6,55 +6,26 @@ use Rattle.record_program.proofs.NumberLaws.{unfit, but-room}
 use Rattle.record_program.proofs.numbers.in_range.Statement.{statement}
 use Rattle.record_program.proofs.numbers.in_range.Tie as tie
 
-array-read-if1 : tie.Need-array-read-if1
-array-read-if1 c = search needs
-
 returns : tie.Need-returns
 returns c = sym (unfit _ (λ f. omega arith))
-
-array-read-if2 : tie.Need-array-read-if2
-array-read-if2 c = search needs
 
 returns-2 : tie.Need-returns-2
 returns-2 c = sym (unfit _ (λ f. omega arith))
 
-array-read-if3 : tie.Need-array-read-if3
-array-read-if3 c = search needs
-
 returns-3 : tie.Need-returns-3
 returns-3 c = sym (unfit _ (λ f. omega arith))
-
-array-read-if4 : tie.Need-array-read-if4
-array-read-if4 c = search needs
 
 returns-4 : tie.Need-returns-4
 returns-4 c = sym (unfit _ (λ f. omega arith))
 
-array-read-if5 : tie.Need-array-read-if5
-array-read-if5 c = search needs
-
 returns-5 : tie.Need-returns-5
 returns-5 c = sym (unfit _ (λ f. omega arith))
-
-array-read-result : tie.Need-array-read-result
-array-read-result c = search needs
 
 returns-6 : tie.Need-returns-6
 returns-6 c = sym (but-room _ (record { is-fdt = omega arith; close = omega arith; fdt-id = omega arith; block = omega arith; symbol = omega arith }))
 
 pub in-range-spec : {M : Type 1} → statement M
 in-range-spec =
-    tie.close
-    (tie.spec
-    array-read-if1
-    returns
-    array-read-if2
-    returns-2
-    array-read-if3
-    returns-3
-    array-read-if4
-    returns-4
-    array-read-if5
-    returns-5
-    array-read-result
-    returns-6)
+    tie.close (tie.spec
+    (λ c. search needs) returns (λ c. search needs) returns-2 (λ c. search needs) returns-3 (λ c. search needs) returns-4 (λ c. search needs)
+    returns-5 (λ c. search needs) returns-6)

@@ -45,18 +45,6 @@ returns-2 c = search needs
 
 pub read-numbers-spec : {M : Type 1} → statement M
 read-numbers-spec =
-    tie.close
-    (tie.spec
-    Inv-loop
-    μ-loop
-    loop-holds
-    next-number-requires
-    enum-known-value
-    returns
-    mul-all
-    array-write-all
-    add-count
-    loop-less
-    loop-again
-    ended-requires
+    tie.close (tie.spec
+    Inv-loop μ-loop loop-holds next-number-requires enum-known-value returns mul-all array-write-all add-count loop-less loop-again ended-requires
     returns-2)

@@ -5,15 +5,6 @@ use borrow.Author.Needs.{needs}
 use Rattle.saltdoodle.proofs.byvalue.opened.Statement.{statement}
 use Rattle.saltdoodle.proofs.byvalue.opened.Tie as tie
 
-setup-in-requires : tie.Need-setup-in-requires
-setup-in-requires c κs = search needs
-
-set-up-requires : tie.Need-set-up-requires
-set-up-requires c κs = search needs
-
-open-told-requires : tie.Need-open-told-requires
-open-told-requires c κs = search needs
-
 returns : tie.Need-returns
 returns c =
     let call = c .before .before .before .set-up in
@@ -37,4 +28,4 @@ returns-2 c =
     }
 
 pub opened-spec : {M : Type 1} → statement M
-opened-spec = tie.close (tie.spec setup-in-requires set-up-requires open-told-requires returns returns-2)
+opened-spec = tie.close (tie.spec (λ c κs. search needs) (λ c κs. search needs) (λ c κs. search needs) returns returns-2)

@@ -3,14 +3,8 @@ use borrow.Author.Needs.{needs}
 use Rattle.saltdoodle.proofs.byvalue.released.Statement.{statement}
 use Rattle.saltdoodle.proofs.byvalue.released.Tie as tie
 
-release-requires : tie.Need-release-requires
-release-requires c κs = search needs
-
-known-told-requires : tie.Need-known-told-requires
-known-told-requires c κs = search needs
-
 returns : tie.Need-returns
 returns c = let call = c .before .before .release in record { result = call .result; promised = call .ensures; stored = refl; said = c .known-told .ensures }
 
 pub released-spec : {M : Type 1} → statement M
-released-spec = tie.close (tie.spec release-requires known-told-requires returns)
+released-spec = tie.close (tie.spec (λ c κs. search needs) (λ c κs. search needs) returns)

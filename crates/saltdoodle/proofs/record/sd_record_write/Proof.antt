@@ -7,26 +7,8 @@ use Rattle.saltdoodle.proofs.PacketLaws.{with-record, without-record}
 use Rattle.saltdoodle.proofs.record.sd_record_write.Statement.{statement}
 use Rattle.saltdoodle.proofs.record.sd_record_write.Tie as tie
 
-answer-in-requires : tie.Need-answer-in-requires
-answer-in-requires c κs = search needs
-
-answer-record-requires : tie.Need-answer-record-requires
-answer-record-requires c κs = search needs
-
-enum-known-r : tie.Need-enum-known-r
-enum-known-r c = search needs
-
-write-requires : tie.Need-write-requires
-write-requires c κs = search needs
-
-writing-told-requires : tie.Need-writing-told-requires
-writing-told-requires c κs = search needs
-
 enum-told : tie.Need-enum-told
 enum-told c = search needs
-
-number-of-requires : tie.Need-number-of-requires
-number-of-requires c κs = search needs
 
 returns : tie.Need-returns
 returns c =
@@ -39,14 +21,6 @@ returns-2 c = let told = c .before .before .before in without-record _ _ _ (ap (
 
 pub sd-record-write-spec : {M : Type 1} → statement M
 sd-record-write-spec =
-    tie.close
-    (tie.spec
-    answer-in-requires
-    answer-record-requires
-    enum-known-r
-    write-requires
-    writing-told-requires
-    enum-told
-    number-of-requires
-    returns
-    returns-2)
+    tie.close (tie.spec
+    (λ c κs. search needs) (λ c κs. search needs) (λ c. search needs) (λ c κs. search needs) (λ c κs. search needs) enum-told
+    (λ c κs. search needs) returns returns-2)

@@ -53,17 +53,4 @@ returns-2 c =
     sym (all-end (is-empty (c .before .before .args .p)) (c .before .before .args .n) (c .before .before .args .t2) (l .inv .0) (l .i) (omega arith)) ∙ l .inv .3
 
 pub all-empty-spec : {M : Type 1} → statement M
-all-empty-spec =
-    tie.close
-    (tie.spec
-    Inv-loop
-    μ-loop
-    loop-holds
-    mul-o
-    array-copy-out-o
-    is-empty-requires
-    returns
-    add-i
-    loop-less
-    loop-again
-    returns-2)
+all-empty-spec = tie.close (tie.spec Inv-loop μ-loop loop-holds mul-o array-copy-out-o is-empty-requires returns add-i loop-less loop-again returns-2)

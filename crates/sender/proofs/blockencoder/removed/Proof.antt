@@ -17,19 +17,8 @@ abbrev μ-loop : tie.MeasureT-loop
 
 pub removed-spec : {M : Type 1} → statement M
 removed-spec =
-    tie.close
-    (tie.spec
-    Inv-loop
-    μ-loop
-    (λ c. closing-starts no-open (search needs) (c .good .0 .1 .0 .1))
-    (λ c. search needs)
-    (λ c. search needs)
-    (λ c. search needs)
-    (λ c. search needs)
-    (λ c. search needs)
-    (λ c. search needs)
-    (λ c. search needs)
-    (λ c. closing-more no-open (c .before .before .loop .inv) (omega arith))
-    (λ c κs. search needs)
-    (λ c. search needs)
+    tie.close (tie.spec
+    Inv-loop μ-loop (λ c. closing-starts no-open (search needs) (c .good .0 .1 .0 .1)) (λ c. search needs) (λ c. search needs) (λ c. search needs)
+    (λ c. search needs) (λ c. search needs) (λ c. search needs) (λ c. search needs)
+    (λ c. closing-more no-open (c .before .before .loop .inv) (omega arith)) (λ c κs. search needs) (λ c. search needs)
     (λ c. ap (set (c .before .before .loop .out) (largest-window - 1)) (c .no-open .ensures) ∙ closing-ends no-open (c .before .before .loop .inv) (omega arith)))

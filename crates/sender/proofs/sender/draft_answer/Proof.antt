@@ -4,17 +4,8 @@ use Rattle.sender.specs.SenderCalls.{draft-answer}
 use Rattle.sender.proofs.sender.draft_answer.Statement.{statement}
 use Rattle.sender.proofs.sender.draft_answer.Tie as tie
 
-enum-told : tie.Need-enum-told
-enum-told c = search needs
-
-enum-known-t : tie.Need-enum-known-t
-enum-known-t c = search needs
-
-returns : tie.Need-returns
-returns c = search needs
-
 returns-2 : tie.Need-returns-2
 returns-2 c = ap draft-answer (sym (c .before .t .given .1))
 
 pub draft-answer-spec : {M : Type 1} → statement M
-draft-answer-spec = tie.close (tie.spec enum-told enum-known-t returns returns-2)
+draft-answer-spec = tie.close (tie.spec (λ c. search needs) (λ c. search needs) (λ c. search needs) returns-2)

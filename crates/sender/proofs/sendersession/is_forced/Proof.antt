@@ -8,12 +8,9 @@ returns : tie.Need-returns
 unfolding forced-slot
 returns c = rw (c .if1 .taken, and-false)
 
-can-transfer-be-stopped-requires : tie.Need-can-transfer-be-stopped-requires
-can-transfer-be-stopped-requires c κs = search needs
-
 returns-2 : tie.Need-returns-2
 unfolding forced-slot
 returns-2 c = rw (c .before .before .if1 .left, and-true) (c .can-transfer-be-stopped .ensures)
 
 pub is-forced-spec : {M : Type 1} → statement M
-is-forced-spec = tie.close (tie.spec returns can-transfer-be-stopped-requires returns-2)
+is-forced-spec = tie.close (tie.spec returns (λ c κs. search needs) returns-2)

@@ -9,9 +9,6 @@ use borrow.Author.Needs.{needs}
 use Rattle.sender.proofs.setup.refused.Statement.{statement}
 use Rattle.sender.proofs.setup.refused.Tie as tie
 
-plain-setup-requires : tie.Need-plain-setup-requires
-plain-setup-requires c κs = search needs
-
 open-requires : tie.Need-open-requires
 open-requires c κs =
     let e = c .plain-setup .ensures in
@@ -23,4 +20,4 @@ returns c =
     ap f (c .«open» .ensures ∙ ap opening-sender (c .before .plain-setup .ensures))
 
 pub refused-spec : {M : Type 1} → statement M
-refused-spec = tie.close (tie.spec plain-setup-requires open-requires returns)
+refused-spec = tie.close (tie.spec (λ c κs. search needs) open-requires returns)

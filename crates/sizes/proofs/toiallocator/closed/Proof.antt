@@ -15,18 +15,8 @@ abbrev μ-loop : tie.MeasureT-loop
 
 pub closed-spec : {M : Type 1} → statement M
 closed-spec =
-    tie.close
-    (tie.spec
-    Inv-loop
-    μ-loop
-    (λ c. closing-starts no-entry (search needs) (c .good .0 .1 .0 .1))
-    (λ c. search needs)
-    (λ c. search needs)
-    (λ c. search needs)
-    (λ c. search needs)
-    (λ c. search needs)
-    (λ c. search needs)
-    (λ c. search needs)
-    (λ c. closing-more no-entry (c .before .before .loop .inv) (omega arith))
-    (λ c. search needs)
+    tie.close (tie.spec
+    Inv-loop μ-loop (λ c. closing-starts no-entry (search needs) (c .good .0 .1 .0 .1)) (λ c. search needs) (λ c. search needs)
+    (λ c. search needs) (λ c. search needs) (λ c. search needs) (λ c. search needs) (λ c. search needs)
+    (λ c. closing-more no-entry (c .before .before .loop .inv) (omega arith)) (λ c. search needs)
     (λ c. closing-ends no-entry (c .before .loop .inv) (omega arith)))

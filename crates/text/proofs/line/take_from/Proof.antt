@@ -97,25 +97,6 @@ returns-4 c =
 
 pub take-from-spec : {M : Type 1} → statement M
 take-from-spec =
-    tie.close
-    (tie.spec
-    Inv-loop
-    μ-loop
-    first-line-requires
-    same-length
-    returns
-    loop-holds
-    sub-loop
-    first-line-requires-2
-    same-length-2
-    returns-2
-    refill-requires
-    sub-if3
-    first-line-requires-3
-    same-length-3
-    returns-3
-    loop-less
-    loop-again
-    first-line-requires-4
-    same-length-4
-    returns-4)
+    tie.close (tie.spec
+    Inv-loop μ-loop first-line-requires same-length returns loop-holds sub-loop first-line-requires-2 same-length-2 returns-2 refill-requires
+    sub-if3 first-line-requires-3 same-length-3 returns-3 loop-less loop-again first-line-requires-4 same-length-4 returns-4)

@@ -10,18 +10,6 @@ use Rattle.wire.proofs.record.read.Tie as tie
 returns : tie.Need-returns
 returns c = read-unlike _ (c .if1 .taken)
 
-word-at-requires : tie.Need-word-at-requires
-word-at-requires c κs = search needs
-
-word-at-requires-2 : tie.Need-word-at-requires-2
-word-at-requires-2 c κs = search needs
-
-word-at-requires-3 : tie.Need-word-at-requires-3
-word-at-requires-3 c κs = search needs
-
-word-at-requires-4 : tie.Need-word-at-requires-4
-word-at-requires-4 c κs = search needs
-
 returns-2 : tie.Need-returns-2
 returns-2 c =
     let d = c .before in
@@ -30,12 +18,6 @@ returns-2 c =
     let a = b .before in
     let h = a .before .if1 .left in
     read-padded _ h (λ z. c .if2 .taken (sym (words-padding _ h _ _ _ _ (a .word-at .ensures .0) (b .word-at2 .ensures .0) (t .word-at3 .ensures .0) (d .word-at4 .ensures .0)) ∙ z))
-
-record-in-requires : tie.Need-record-in-requires
-record-in-requires c κs = search needs
-
-is-good-requires : tie.Need-is-good-requires
-is-good-requires c κs = search needs
 
 -- the padding is 0, and the record is the one that the four words hold
 held : (c : tie.After-record-in) → (padding (values-in (c .before .before .before .before .before .before .before .before .args .bytes .now)) ≡ 0)
@@ -67,15 +49,6 @@ returns-4 c =
 
 pub read-spec : {M : Type 1} → statement M
 read-spec =
-    tie.close
-    (tie.spec
-    returns
-    word-at-requires
-    word-at-requires-2
-    word-at-requires-3
-    word-at-requires-4
-    returns-2
-    record-in-requires
-    is-good-requires
-    returns-3
-    returns-4)
+    tie.close (tie.spec
+    returns (λ c κs. search needs) (λ c κs. search needs) (λ c κs. search needs) (λ c κs. search needs) returns-2 (λ c κs. search needs)
+    (λ c κs. search needs) returns-3 returns-4)

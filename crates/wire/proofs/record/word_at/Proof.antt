@@ -60,18 +60,4 @@ returns c =
     (l .inv .1 ∙ ap (λ n. number-spelled (take n (drop (a .at) (a .bytes .now)))) e, subst (λ n. l .w < 2 ^ (8 * n)) e (l .inv .2))
 
 pub word-at-spec : {M : Type 1} → statement M
-word-at-spec =
-    tie.close
-    (tie.spec
-    Inv-loop
-    μ-loop
-    loop-holds
-    mul-w
-    add-w
-    shared-slice-read-w
-    cast-w
-    add-w-2
-    add-i
-    loop-less
-    loop-again
-    returns)
+word-at-spec = tie.close (tie.spec Inv-loop μ-loop loop-holds mul-w add-w shared-slice-read-w cast-w add-w-2 add-i loop-less loop-again returns)

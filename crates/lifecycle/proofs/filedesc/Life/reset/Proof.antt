@@ -3,9 +3,6 @@ use Rattle.lifecycle.specs.FileDesc.{reset-life}
 use Rattle.lifecycle.proofs.filedesc.Life.reset.Statement.{statement}
 use Rattle.lifecycle.proofs.filedesc.Life.reset.Tie as tie
 
-none-requires : tie.Need-none-requires
-none-requires c κs = search needs
-
 returns : tie.Need-returns
 unfolding reset-life
 returns c = rw (c .if1 .taken, c .before .none .ensures)
@@ -15,4 +12,4 @@ unfolding reset-life
 returns-2 c = rw (c .if1 .left, c .before .none .ensures)
 
 pub reset-spec : {M : Type 1} → statement M
-reset-spec = tie.close (tie.spec none-requires returns returns-2)
+reset-spec = tie.close (tie.spec (λ c κs. search needs) returns returns-2)

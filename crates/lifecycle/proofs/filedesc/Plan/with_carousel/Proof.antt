@@ -6,12 +6,6 @@ use Rattle.lifecycle.proofs.filedesc.Plan.with_carousel.Tie as tie
 enum-told : tie.Need-enum-told
 enum-told c = search needs
 
-enum-known-c : tie.Need-enum-known-c
-enum-known-c c = search needs
-
-enum-known-c-2 : tie.Need-enum-known-c-2
-enum-known-c-2 c = search needs
-
 returns : tie.Need-returns
 unfolding with-carousel
 returns c = rw (c .enum-told .given .1)
@@ -25,5 +19,4 @@ unfolding with-carousel
 returns-3 c = rw (c .before .c2 .given .1)
 
 pub with-carousel-spec : {M : Type 1} → statement M
-with-carousel-spec =
-    tie.close (tie.spec enum-told enum-known-c enum-known-c-2 returns returns-2 returns-3)
+with-carousel-spec = tie.close (tie.spec enum-told (λ c. search needs) (λ c. search needs) returns returns-2 returns-3)

@@ -6,12 +6,6 @@ use Rattle.lifecycle.proofs.filedesc.Plan.with_target.Tie as tie
 enum-told : tie.Need-enum-told
 enum-told c = search needs
 
-enum-known-t : tie.Need-enum-known-t
-enum-known-t c = search needs
-
-enum-known-t-2 : tie.Need-enum-known-t-2
-enum-known-t-2 c = search needs
-
 returns : tie.Need-returns
 unfolding with-target
 returns c = rw (c .enum-told .given .1)
@@ -25,5 +19,4 @@ unfolding with-target
 returns-3 c = rw (c .before .t2 .given .1)
 
 pub with-target-spec : {M : Type 1} → statement M
-with-target-spec =
-    tie.close (tie.spec enum-told enum-known-t enum-known-t-2 returns returns-2 returns-3)
+with-target-spec = tie.close (tie.spec enum-told (λ c. search needs) (λ c. search needs) returns returns-2 returns-3)

@@ -24,9 +24,6 @@ returns c =
 ready-requires : tie.Need-ready-requires
 ready-requires c κs = valid-flags (c .before .before .before .before .args .self) (c .before .before .before .before .pre) (c .before .before .before .before .args .self .begun) (c .before .before .before .before .args .force)
 
-read-empty-requires : tie.Need-read-empty-requires
-read-empty-requires c κs = search needs
-
 returns-2 : tie.Need-returns-2
 returns-2 c =
     let s = c .before .before .before .before .before .before .before .before in
@@ -76,13 +73,4 @@ returns-3 c =
     (read-means f x (s .pre))
 
 pub read-spec : {M : Type 1} → statement M
-read-spec =
-    tie.close
-    (tie.spec
-    returns
-    ready-requires
-    read-empty-requires
-    returns-2
-    visit-requires
-    moved-on-requires
-    returns-3)
+read-spec = tie.close (tie.spec returns ready-requires (λ c κs. search needs) returns-2 visit-requires moved-on-requires returns-3)

@@ -40,14 +40,4 @@ returns c =
     sym (filled-none (y .x) (sym (c .before .has-room .ensures) ∙ c .if1 .left)) ∙ y .inv .1
 
 pub read-window-spec : {M : Type 1} → statement M
-read-window-spec =
-    tie.close
-    (tie.spec
-    Inv-loop
-    μ-loop
-    loop-holds
-    has-room-requires
-    read-block-requires
-    loop-less
-    loop-again
-    returns)
+read-window-spec = tie.close (tie.spec Inv-loop μ-loop loop-holds has-room-requires read-block-requires loop-less loop-again returns)

@@ -54,15 +54,5 @@ returns c =
 
 pub ready-spec : {M : Type 1} → statement M
 ready-spec =
-    tie.close
-    (tie.spec
-    Inv-loop
-    μ-loop
-    read-window-requires
-    loop-holds
-    is-stuck-requires
-    without-requires
-    read-window-requires-2
-    loop-less
-    loop-again
-    returns)
+    tie.close (tie.spec
+    Inv-loop μ-loop read-window-requires loop-holds is-stuck-requires without-requires read-window-requires-2 loop-less loop-again returns)

@@ -11,23 +11,11 @@ use borrow.Author.Needs.{needs}
 use Rattle.sender.proofs.sender.Sender.add.Statement.{statement}
 use Rattle.sender.proofs.sender.Sender.add.Tie as tie
 
-has-priority-requires : tie.Need-has-priority-requires
-has-priority-requires c κs = search needs
-
 returns : tie.Need-returns
 returns c =
     let s = c .before .before in
     let a = s .args in
     subst (Adds (a .o) (a .named) (a .self)) (add-refused (a .o) (a .named) (a .self) (sym (c .before .has-priority .ensures) ∙ not-true _ (c .if1 .taken))) (adds (a .self) (s .pre) (a .o) (a .named))
-
-request-requires : tie.Need-request-requires
-request-requires c κs = search needs
-
-add-object-requires : tie.Need-add-object-requires
-add-object-requires c κs = search needs
-
-with-fdt-requires : tie.Need-with-fdt-requires
-with-fdt-requires c κs = search needs
 
 returns-2 : tie.Need-returns-2
 returns-2 c =
@@ -42,12 +30,4 @@ returns-2 c =
     (adds (a .self) (s .pre) (a .o) (a .named))
 
 pub add-spec : {M : Type 1} → statement M
-add-spec =
-    tie.close
-    (tie.spec
-    has-priority-requires
-    returns
-    request-requires
-    add-object-requires
-    with-fdt-requires
-    returns-2)
+add-spec = tie.close (tie.spec (λ c κs. search needs) returns (λ c κs. search needs) (λ c κs. search needs) (λ c κs. search needs) returns-2)

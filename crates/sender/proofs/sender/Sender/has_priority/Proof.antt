@@ -54,16 +54,4 @@ returns-2 c =
     sym (any-end (has-priority (a .priority)) (a .self .count) (a .self .sessions) (l .inv .0) (l .i) (omega arith)) ∙ l .inv .3
 
 pub has-priority-spec : {M : Type 1} → statement M
-has-priority-spec =
-    tie.close
-    (tie.spec
-    Inv-loop
-    μ-loop
-    loop-holds
-    mul-if1
-    element-copy-out-if1
-    returns
-    add-i
-    loop-less
-    loop-again
-    returns-2)
+has-priority-spec = tie.close (tie.spec Inv-loop μ-loop loop-holds mul-if1 element-copy-out-if1 returns add-i loop-less loop-again returns-2)

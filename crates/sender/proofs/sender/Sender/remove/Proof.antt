@@ -8,12 +8,6 @@ use borrow.Author.Needs.{needs}
 use Rattle.sender.proofs.sender.Sender.remove.Statement.{statement}
 use Rattle.sender.proofs.sender.Sender.remove.Tie as tie
 
-remove-object-requires : tie.Need-remove-object-requires
-remove-object-requires c κs = search needs
-
-with-fdt-requires : tie.Need-with-fdt-requires
-with-fdt-requires c κs = search needs
-
 returns : tie.Need-returns
 unfolding removing-of
 returns c =
@@ -24,4 +18,4 @@ returns c =
     subst (Removes (a .toi) (a .self)) (sym (ap g (c .before .remove-object .ensures)) ∙ ap h (sym (c .with-fdt .ensures))) (removes (a .self) (s .pre) (a .toi))
 
 pub remove-spec : {M : Type 1} → statement M
-remove-spec = tie.close (tie.spec remove-object-requires with-fdt-requires returns)
+remove-spec = tie.close (tie.spec (λ c κs. search needs) (λ c κs. search needs) returns)

@@ -8,12 +8,6 @@ use borrow.Author.Needs.{needs}
 use Rattle.sender.proofs.sender.Sender.trigger.Statement.{statement}
 use Rattle.sender.proofs.sender.Sender.trigger.Tie as tie
 
-trigger-transfer-at-requires : tie.Need-trigger-transfer-at-requires
-trigger-transfer-at-requires c κs = search needs
-
-with-fdt-requires : tie.Need-with-fdt-requires
-with-fdt-requires c κs = search needs
-
 returns : tie.Need-returns
 unfolding prompting-of
 returns c =
@@ -24,4 +18,4 @@ returns c =
     subst (Prompts (a .toi) (a .start) (a .self)) (sym (ap g (c .before .trigger-transfer-at .ensures)) ∙ ap h (sym (c .with-fdt .ensures))) (prompts (a .self) (s .pre) (a .toi) (a .start))
 
 pub trigger-spec : {M : Type 1} → statement M
-trigger-spec = tie.close (tie.spec trigger-transfer-at-requires with-fdt-requires returns)
+trigger-spec = tie.close (tie.spec (λ c κs. search needs) (λ c κs. search needs) returns)

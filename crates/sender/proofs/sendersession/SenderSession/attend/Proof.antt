@@ -7,26 +7,8 @@ use Rattle.sender.proofs.SessionLaws.{not-over}
 use Rattle.sender.proofs.sendersession.SenderSession.attend.Statement.{statement}
 use Rattle.sender.proofs.sendersession.SenderSession.attend.Tie as tie
 
-slot-at-requires : tie.Need-slot-at-requires
-slot-at-requires c κs = search needs
-
-is-forced-requires : tie.Need-is-forced-requires
-is-forced-requires c κs = search needs
-
-need-transfer-fdt-requires : tie.Need-need-transfer-fdt-requires
-need-transfer-fdt-requires c κs = search needs
-
-serve-requires : tie.Need-serve-requires
-serve-requires c κs = search needs
-
 enum-told : tie.Need-enum-told
 enum-told c = search needs
-
-transfer-done-requires : tie.Need-transfer-done-requires
-transfer-done-requires c κs = search needs
-
-idle-requires : tie.Need-idle-requires
-idle-requires c κs = search needs
 
 returns : tie.Need-returns
 unfolding attended-of
@@ -45,14 +27,6 @@ returns-2 c =
 
 pub attend-spec : {M : Type 1} → statement M
 attend-spec =
-    tie.close
-    (tie.spec
-    slot-at-requires
-    is-forced-requires
-    need-transfer-fdt-requires
-    serve-requires
-    enum-told
-    transfer-done-requires
-    idle-requires
-    returns
-    returns-2)
+    tie.close (tie.spec
+    (λ c κs. search needs) (λ c κs. search needs) (λ c κs. search needs) (λ c κs. search needs) enum-told (λ c κs. search needs)
+    (λ c κs. search needs) returns returns-2)

@@ -39,13 +39,4 @@ returns-3 c =
     c .take-on2 .ensures ∙ sym (ran-idle (a .width) (a .now) (a .fdt) (a .self) (c .before .if1 .left))
 
 pub run-spec : {M : Type 1} → statement M
-run-spec =
-    tie.close
-    (tie.spec
-    attend-requires
-    enum-told
-    take-on-requires
-    returns
-    returns-2
-    take-on-requires-2
-    returns-3)
+run-spec = tie.close (tie.spec attend-requires enum-told take-on-requires returns returns-2 take-on-requires-2 returns-3)

@@ -9,12 +9,6 @@ use Rattle.sender.proofs.SessionLaws.{taken-inside, ready-begun}
 use Rattle.sender.proofs.sendersession.SenderSession.take_on.Statement.{statement}
 use Rattle.sender.proofs.sendersession.SenderSession.take_on.Tie as tie
 
-get-next-file-transfer-requires : tie.Need-get-next-file-transfer-requires
-get-next-file-transfer-requires c κs = search needs
-
-enum-known-answer : tie.Need-enum-known-answer
-enum-known-answer c = search needs
-
 enum-told : tie.Need-enum-told
 enum-told c = search needs
 
@@ -34,9 +28,6 @@ in-list c =
 slot-at-requires : tie.Need-slot-at-requires
 slot-at-requires c κs = in-list c
 
-begin-requires : tie.Need-begin-requires
-begin-requires c κs = search needs
-
 attend-requires : tie.Need-attend-requires
 attend-requires c κs =
     let s = c .before .before .before .before .before .before .before in
@@ -50,13 +41,5 @@ returns-2 c =
 
 pub take-on-spec : {M : Type 1} → statement M
 take-on-spec =
-    tie.close
-    (tie.spec
-    get-next-file-transfer-requires
-    enum-known-answer
-    enum-told
-    returns
-    slot-at-requires
-    begin-requires
-    attend-requires
-    returns-2)
+    tie.close (tie.spec
+    (λ c κs. search needs) (λ c. search needs) enum-told returns slot-at-requires (λ c κs. search needs) attend-requires returns-2)
