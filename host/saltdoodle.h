@@ -1,7 +1,7 @@
 /* A sender for a host in C: the functions of libsaltdoodle.a (`rt staticlib saltdoodle`; x86-64 Linux).
 
    The host owns an sd_sender and lends it to each call. It keeps to this:
-   - sd_set_up fills it, and comes first: the other calls need a sender that an accepted set-up filled. Before that, zeros may stand there.
+   - sd_set_up fills it, and comes first: the other calls need a sender that an accepted set-up filled. Before that, zeros must stand there.
    - A refused call, a set-up too, leaves what stood there.
    - Nothing but these calls writes into it, and nothing touches or copies it while a call runs: one thread at a time.
      It holds no address, so between two calls it may be moved.
@@ -20,7 +20,7 @@
      7 32 objects, 64 numbers or 4 waiting FDTs are held already
      8 no such session
      9 no record
-   The smallest that applies is told. But for a set-up, a refused call changes nothing. */
+   The smallest that applies is told. A refused call changes nothing. */
 #ifndef SALTDOODLE_H
 #define SALTDOODLE_H
 
