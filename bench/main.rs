@@ -3,10 +3,13 @@
 
 mod case;
 mod ours;
+#[path = "../host/saltdoodle.rs"]
+mod saltdoodle;
 mod theirs;
 
 use case::Case;
 use ours::Ours;
+use saltdoodle::SdSent;
 use std::hint::black_box;
 use std::process::Command;
 use theirs::Theirs;
@@ -90,7 +93,7 @@ fn time(side: usize, case: &Case, store: &[u8], packets: u64) -> u64 {
 }
 
 /// One packet, or none, of each side: the same fields (with the payload's start), and for an object the same bytes.
-fn compare(theirs: Option<Vec<u8>>, ours: &ours::Sent, store: &[u8]) -> bool {
+fn compare(theirs: Option<Vec<u8>>, ours: &SdSent, store: &[u8]) -> bool {
     assert_eq!(ours.refused, 0);
     assert_eq!(theirs.is_some(), ours.sent, "one side has a packet");
     let Some(data) = theirs else { return false };

@@ -1,116 +1,20 @@
-//! Our sender: the functions of crates/host/src/calls.rt, and the structs that they take and give.
+//! Our sender, through host/saltdoodle.rs.
 
 use crate::case::{Case, Fields, CLOCK, FDT_LENGTH, HOUR};
+use crate::saltdoodle::*;
 
-/// Room for the library's `Sender`, which nothing here looks into; `ROOM` is more than it needs.
-const ROOM: usize = 4096;
 const UNTOUCHED: u64 = 0x5EED_5EED_5EED_5EED;
 
+/// The sender that is lent, and words behind it that no call may touch.
 #[repr(C, align(64))]
-struct Sender([u64; ROOM]);
-
-#[repr(C)]
-#[derive(Clone, Copy)]
-pub struct Part {
-    pub start: u64,
-    pub size: u64,
+struct Room {
+    sender: SdSender,
+    behind: [u64; 1024],
 }
 
-#[repr(C)]
-struct Sizes {
-    e: u64,
-    b: u64,
-}
-
-#[repr(C)]
-struct Time {
-    known: bool,
-    at: u64,
-}
-
-#[repr(C)]
-struct Rule {
-    most: u32,
-    repeats: bool,
-    from_start: bool,
-    interval: u64,
-    paced: bool,
-    by_time: bool,
-    target: u64,
-    stop_at_once: bool,
-}
-
-#[repr(C)]
-struct PlainObject {
-    priority: u32,
-    part: Part,
-    own: bool,
-    sizes: Sizes,
-    rule: Rule,
-    start: Time,
-    named: bool,
-    toi: u64,
-}
-
-#[repr(C)]
-struct PlainSetup {
-    sizes: Sizes,
-    window: u64,
-    count: u64,
-    priorities: [u32; 4],
-    width: u64,
-    first_toi: u64,
-    first_fdt_id: u64,
-    validity: u64,
-    from_start: bool,
-    interval: u64,
-    object_store: u64,
-    fdt_store: u64,
-}
-
-#[repr(C)]
-struct Numbered {
-    refused: u32,
-    toi: u64,
-}
-
-#[repr(C)]
-pub struct Symbol {
-    pub sbn: u32,
-    pub esi: u32,
-    pub symbols: u64,
-    pub payload: Part,
-    pub transfer_length: u64,
-    pub close: bool,
-}
-
-#[repr(C)]
-pub struct Packet {
-    pub is_fdt: bool,
-    pub toi: u64,
-    pub fdt_id: u32,
-    pub symbol: Symbol,
-}
-
-#[repr(C)]
-pub struct Sent {
-    pub refused: u32,
-    pub taken: bool,
-    pub sent: bool,
-    pub packet: Packet,
-}
-
-extern "C" {
-    fn sender_set_up(s: &mut Sender, z: PlainSetup) -> u32;
-    fn sender_add(s: &mut Sender, o: PlainObject) -> Numbered;
-    fn sender_publish(s: &mut Sender, at: u64, part: Part) -> u32;
-    fn sender_run_fdt(s: &mut Sender, at: u64, draft: Part) -> Sent;
-    fn sender_run(s: &mut Sender, i: u64, at: u64) -> Sent;
-}
-
-fn set_up_of(case: &Case) -> PlainSetup {
-    PlainSetup {
-        sizes: Sizes {
+fn set_up_of(case: &Case) -> SdSetup {
+    SdSetup {
+        sizes: SdSizes {
             e: case.e,
             b: case.b,
         },
@@ -129,16 +33,16 @@ fn set_up_of(case: &Case) -> PlainSetup {
 }
 
 /// Object k, which is sent once, as fast as it is asked for.
-fn object_of(case: &Case, k: usize) -> PlainObject {
-    PlainObject {
+fn object_of(case: &Case, k: usize) -> SdObject {
+    SdObject {
         priority: case.priority(k),
-        part: Part {
+        part: SdPart {
             start: case.start(k) as u64,
             size: case.length as u64,
         },
         own: false,
-        sizes: Sizes { e: 0, b: 0 },
-        rule: Rule {
+        sizes: SdSizes { e: 0, b: 0 },
+        plan: SdPlan {
             most: 1,
             repeats: false,
             from_start: false,
@@ -148,7 +52,7 @@ fn object_of(case: &Case, k: usize) -> PlainObject {
             target: 0,
             stop_at_once: false,
         },
-        start: Time {
+        start: SdTime {
             known: false,
             at: 0,
         },
@@ -157,46 +61,48 @@ fn object_of(case: &Case, k: usize) -> PlainObject {
     }
 }
 
-pub struct Ours(Box<Sender>);
+pub struct Ours(Box<Room>);
 
 impl Ours {
     /// All objects added, and an FDT published.
     pub fn new(case: &Case) -> Ours {
-        let mut words = Box::new(Sender([0; ROOM]));
-        words.0[ROOM / 2..].fill(UNTOUCHED);
-        let mut ours = Ours(words);
-        // The library's functions keep to what they are lent; that it is long enough is tested below.
+        let mut ours = Ours(Box::new(Room {
+            sender: SdSender::zeros(),
+            behind: [UNTOUCHED; 1024],
+        }));
+        let sender = &mut ours.0.sender;
+        // The set-up comes first.
         unsafe {
-            assert_eq!(sender_set_up(&mut ours.0, set_up_of(case)), 0);
+            assert_eq!(sd_set_up(sender, set_up_of(case)), 0);
             for k in 0..case.objects {
-                let answer = sender_add(&mut ours.0, object_of(case, k));
+                let answer = sd_add(sender, object_of(case, k));
                 assert_eq!((answer.refused, answer.toi), (0, 1 + k as u64));
             }
-            let whole = Part {
+            let whole = SdPart {
                 start: 0,
                 size: FDT_LENGTH as u64,
             };
-            assert_eq!(sender_publish(&mut ours.0, CLOCK, whole), 0);
+            assert_eq!(sd_publish(sender, CLOCK, whole), 0);
         }
         assert!(
-            ours.0 .0[ROOM / 2..].iter().all(|w| *w == UNTOUCHED),
-            "`ROOM` is too small"
+            ours.0.behind.iter().all(|w| *w == UNTOUCHED),
+            "a word behind the sender is written"
         );
         ours
     }
 
-    pub fn run_fdt(&mut self) -> Sent {
-        unsafe { sender_run_fdt(&mut self.0, CLOCK, Part { start: 0, size: 0 }) }
+    pub fn run_fdt(&mut self) -> SdSent {
+        unsafe { sd_run_fdt(&mut self.0.sender, CLOCK, SdPart { start: 0, size: 0 }) }
     }
 
     #[inline]
-    pub fn run(&mut self, session: usize) -> Sent {
-        unsafe { sender_run(&mut self.0, session as u64, CLOCK) }
+    pub fn run(&mut self, session: usize) -> SdSent {
+        unsafe { sd_run(&mut self.0.sender, session as u64, CLOCK) }
     }
 }
 
 /// What a packet says.
-pub fn fields(p: &Packet) -> Fields {
+pub fn fields(p: &SdPacket) -> Fields {
     let s = &p.symbol;
     Fields {
         is_fdt: p.is_fdt,
@@ -214,8 +120,8 @@ pub fn fields(p: &Packet) -> Fields {
 
 /// The payload, copied into the send buffer.
 #[inline]
-pub fn copy(p: &Packet, store: &[u8], buffer: &mut [u8]) -> usize {
-    let Part { start, size } = p.symbol.payload;
+pub fn copy(p: &SdPacket, store: &[u8], buffer: &mut [u8]) -> usize {
+    let SdPart { start, size } = p.symbol.payload;
     let payload = &store[start as usize..(start + size) as usize];
     buffer[..payload.len()].copy_from_slice(payload);
     payload.len()
@@ -223,7 +129,7 @@ pub fn copy(p: &Packet, store: &[u8], buffer: &mut [u8]) -> usize {
 
 /// The bytes that oracle/standins/flute/common/alc.rs makes of a packet, in the send buffer.
 #[inline]
-pub fn write(p: &Packet, store: &[u8], buffer: &mut [u8]) -> usize {
+pub fn write(p: &SdPacket, store: &[u8], buffer: &mut [u8]) -> usize {
     let s = &p.symbol;
     let (head, rest) = buffer.split_at_mut(43);
     head[..16].copy_from_slice(&(p.toi as u128).to_be_bytes());

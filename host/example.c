@@ -54,14 +54,14 @@ static void set_up(void) {
         .object_store = sizeof objects,
         .fdt_store = sizeof fdts,
     };
-    uint32_t refused = sender_set_up(&sender, z);
+    uint32_t refused = sd_set_up(&sender, z);
     if (refused != 0) fail("set-up", refused);
 }
 
 /* Adds a bank, to be sent `most` times by the session of this priority. */
 static uint64_t add(uint32_t priority, sd_part part, uint32_t most) {
-    sd_object o = {.priority = priority, .part = part, .rule = {.most = most}};
-    sd_numbered r = sender_add(&sender, o);
+    sd_object o = {.priority = priority, .part = part, .plan = {.most = most}};
+    sd_numbered r = sd_add(&sender, o);
     if (r.refused != 0) fail("add", r.refused);
     return r.toi;
 }
@@ -89,7 +89,7 @@ static bool print(sd_sent s) {
         printf("-");
     printf(" %" PRIu32 " %" PRIu32 " %d %" PRIu64 " %" PRIu64, y->sbn, y->esi, y->close, y->transfer_length, y->symbols);
 
-    sd_place c = sender_payload(sizeof objects, sizeof fdts, s);
+    sd_place c = sd_payload(sizeof objects, sizeof fdts, s);
     const uint8_t *payload = (c.of_fdt ? fdts : objects) + c.start;
     uint64_t sum = 1;
     for (uint64_t i = 0; i < c.size; i++) sum = (257 * sum + payload[i] + 1) % UINT64_C(4294967291);
@@ -99,7 +99,7 @@ static bool print(sd_sent s) {
         printf(" %" PRIu64 " %" PRIu64 " %" PRIu64 " record ", c.size, c.start, sum);
 
     uint8_t record[SD_RECORD_SIZE];
-    uint32_t refused = sender_record(record, s);
+    uint32_t refused = sd_record_write(record, s);
     if (refused != 0) fail("record", refused);
     for (int i = 0; i < SD_RECORD_SIZE; i++) printf("%02x", record[i]);
     printf("\n");
@@ -117,15 +117,15 @@ int main(int argc, char **argv) {
     banks[1] = read_part(argv[2], objects, sizeof objects, banks[0].size);
     uint64_t tois[2] = {add(1, banks[0], 2), add(2, banks[1], 1)};
     sd_part fdt = argc == 4 ? read_part(argv[3], fdts, sizeof fdts, 0) : write_fdt((const char *const[2]){argv[1], argv[2]}, tois, banks);
-    uint32_t refused = sender_publish(&sender, 0, fdt);
+    uint32_t refused = sd_publish(&sender, 0, fdt);
     if (refused != 0) fail("publish", refused);
 
     /* One millisecond a round: each session is asked in turn, until none has a packet. */
     sd_part no_draft = {.start = 0, .size = 0};
     bool any = true;
     for (uint64_t now = 0; any; now += 1000000) {
-        any = print(sender_run_fdt(&sender, now, no_draft));
-        for (uint64_t i = 0; i < 2; i++) any = print(sender_run(&sender, i, now)) || any;
+        any = print(sd_run_fdt(&sender, now, no_draft));
+        for (uint64_t i = 0; i < 2; i++) any = print(sd_run(&sender, i, now)) || any;
     }
     return 0;
 }

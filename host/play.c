@@ -76,7 +76,7 @@ static void set_up(void) {
     z.object_store = object_store = number(at + 6);
     z.fdt_store = fdt_store = number(at + 7);
     /* a priority is 32 bits wide here */
-    uint32_t refused = narrow ? sender_set_up(&sender, z) : 1;
+    uint32_t refused = narrow ? sd_set_up(&sender, z) : 1;
     open = refused == 0;
     refused_or(refused, "ok");
 }
@@ -88,20 +88,20 @@ static void add(void) {
     o.part = part(2);
     o.own = !is(4, "-");
     if (o.own) o.sizes = (sd_sizes){.e = number(4), .b = number(5)};
-    o.rule.most = (uint32_t)number(6);
-    o.rule.repeats = !is(7, "none");
-    o.rule.from_start = is(7, "interval");
-    o.rule.interval = number(8);
-    o.rule.paced = !is(9, "none");
-    o.rule.by_time = is(9, "at");
-    o.rule.target = number(10);
+    o.plan.most = (uint32_t)number(6);
+    o.plan.repeats = !is(7, "none");
+    o.plan.from_start = is(7, "interval");
+    o.plan.interval = number(8);
+    o.plan.paced = !is(9, "none");
+    o.plan.by_time = is(9, "at");
+    o.plan.target = number(10);
     o.start.known = !is(11, "-");
     if (o.start.known) o.start.at = number(11);
-    o.rule.stop_at_once = number(12) == 1;
+    o.plan.stop_at_once = number(12) == 1;
     o.named = !is(13, "-");
     if (o.named) o.toi = number(13);
     /* as above: no session has a wider priority */
-    numbered(number(1) > UINT32_MAX ? (sd_numbered){.refused = 2} : sender_add(&sender, o));
+    numbered(number(1) > UINT32_MAX ? (sd_numbered){.refused = 2} : sd_add(&sender, o));
 }
 
 static void trigger(void) {
@@ -109,7 +109,7 @@ static void trigger(void) {
     memset(&start, 0xff, sizeof start);
     start.known = !is(2, "-");
     if (start.known) start.at = number(2);
-    printf("%s\n", sender_trigger(&sender, number(1), start) ? "yes" : "no");
+    printf("%s\n", sd_trigger(&sender, number(1), start) ? "yes" : "no");
 }
 
 /* Some bits of a record, the most significant first. */
@@ -125,20 +125,20 @@ static void check_record(sd_sent s) {
     uint32_t id = p->is_fdt ? p->fdt_id : 0;
     uint8_t record[SD_RECORD_SIZE + 1];
     memset(record, 0xa5, sizeof record);
-    if (sender_record(record, s) != 0) wrong("a record is refused");
+    if (sd_record_write(record, s) != 0) wrong("a record is refused");
     if (record[SD_RECORD_SIZE] != 0xa5) wrong("a byte behind the record is written");
     if (bits(record, 0, 1) != p->is_fdt || bits(record, 1, 1) != y->close || bits(record, 2, 20) != id || bits(record, 22, 64) != p->toi
         || bits(record, 86, 16) != y->sbn || bits(record, 102, 16) != y->esi || bits(record, 118, 16) != y->payload.size
         || bits(record, 134, 48) != y->transfer_length || bits(record, 182, 16) != y->symbols || bits(record, 198, 26) != 0)
         wrong("a record has other fields");
-    sd_record r = record_read(record);
+    sd_record r = sd_record_read(record);
     if (r.refused != 0 || r.is_fdt != p->is_fdt || r.close != y->close || r.fdt_id != id || r.toi != p->toi || r.block != y->sbn
         || r.symbol != y->esi || r.length != y->payload.size || r.total != y->transfer_length || r.symbols != y->symbols)
         wrong("a record reads otherwise");
     record[SD_RECORD_SIZE - 1] = 1;
-    if (record_read(record).refused != 9) wrong("a record with a bit in its padding is read");
+    if (sd_record_read(record).refused != 9) wrong("a record with a bit in its padding is read");
     s.sent = false;
-    if (sender_record(record, s) != 9) wrong("there is a record without a packet");
+    if (sd_record_write(record, s) != 9) wrong("there is a record without a packet");
 }
 
 /* Byte i of a store, as `desk` fills it. */
@@ -147,9 +147,9 @@ static uint64_t byte_at(bool of_fdt, uint64_t i) { return of_fdt ? (83 * i + 29 
 static void packet(sd_sent s) {
     const sd_packet *p = &s.packet;
     const sd_symbol *y = &p->symbol;
-    sd_place c = sender_payload(object_store, fdt_store, s);
+    sd_place c = sd_payload(object_store, fdt_store, s);
     if (c.of_fdt != p->is_fdt || c.start != y->payload.start || c.size != y->payload.size) wrong("a payload stands elsewhere");
-    sd_place none = sender_payload(c.of_fdt ? object_store : c.start, c.of_fdt ? c.start : fdt_store, s);
+    sd_place none = sd_payload(c.of_fdt ? object_store : c.start, c.of_fdt ? c.start : fdt_store, s);
     if (none.size != 0 || (c.size != 0 && (none.of_fdt || none.start != 0))) wrong("a payload past its store");
     uint64_t sum = 1;
     for (uint64_t i = 0; i < c.size; i++) sum = (257 * sum + byte_at(c.of_fdt, c.start + i) + 1) % UINT64_C(4294967291);
@@ -187,28 +187,28 @@ static void play(void) {
     else if (!open)
         printf("error\n");
     else if (is(0, "reserve"))
-        numbered(sender_reserve(&sender));
+        numbered(sd_reserve(&sender));
     else if (is(0, "release"))
-        refused_or(sender_release(&sender, number(1)), "ok");
+        refused_or(sd_release(&sender, number(1)), "ok");
     else if (is(0, "add"))
         add();
     else if (is(0, "remove"))
-        printf("%s\n", sender_remove(&sender, number(1)) ? "yes" : "no");
+        printf("%s\n", sd_remove(&sender, number(1)) ? "yes" : "no");
     else if (is(0, "trigger"))
         trigger();
     else if (is(0, "publish"))
-        refused_or(sender_publish(&sender, number(1), part(2)), "ok");
+        refused_or(sd_publish(&sender, number(1), part(2)), "ok");
     else if (is(0, "complete")) {
-        sender_complete(&sender);
+        sd_complete(&sender);
         printf("ok\n");
     } else if (is(0, "listed"))
-        printf("%s\n", sender_listed(&sender, number(1)) ? "yes" : "no");
+        printf("%s\n", sd_listed(&sender, number(1)) ? "yes" : "no");
     else if (is(0, "transfers"))
-        total(sender_transfers(&sender, number(1)));
+        total(sd_transfers(&sender, number(1)));
     else if (is(0, "runfdt"))
-        ran(sender_run_fdt(&sender, number(1), part(2)), true);
+        ran(sd_run_fdt(&sender, number(1), part(2)), true);
     else if (is(0, "run"))
-        ran(sender_run(&sender, number(1), number(2)), false);
+        ran(sd_run(&sender, number(1), number(2)), false);
     else
         wrong("no such command");
 }
@@ -222,7 +222,7 @@ static void check_size(void) {
     sd_setup z = {.sizes = {1, 1}, .window = 1, .count = 1, .width = 16, .first_toi = 1};
     for (int k = 0; k < 2; k++) {
         memset(&rooms[k], k, sizeof rooms[k]);
-        if (sender_set_up(&rooms[k].sender, z) != 0) wrong("the smallest set-up is refused");
+        if (sd_set_up(&rooms[k].sender, z) != 0) wrong("the smallest set-up is refused");
         for (size_t i = 0; i < sizeof rooms[k].behind; i++)
             if (rooms[k].behind[i] != k) wrong("a byte behind the sender is written");
     }

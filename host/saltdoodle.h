@@ -1,7 +1,7 @@
-/* A sender for a host in C: the functions of libhost.a (`rt staticlib host`; x86-64 Linux).
+/* A sender for a host in C: the functions of libsaltdoodle.a (`rt staticlib saltdoodle`; x86-64 Linux).
 
    The host owns an sd_sender and lends it to each call. It keeps to this:
-   - sender_set_up fills it, and comes first: the other calls need a sender that an accepted set-up filled. Before that, zeros may stand there.
+   - sd_set_up fills it, and comes first: the other calls need a sender that an accepted set-up filled. Before that, zeros must stand there.
    - A refused call, a set-up too, leaves what stood there.
    - Nothing but these calls writes into it, and nothing touches or copies it while a call runs: one thread at a time.
      It holds no address, so between two calls it may be moved.
@@ -13,14 +13,14 @@
    Times and durations are nanoseconds, on the host's clock; any may follow any other. An answer's `refused` is 0, or says why:
      1 set-up: a number out of range
      2 add: no session has that priority
-     3 add: after sender_complete
+     3 add: after sd_complete
      4 E or B out of range, or more than 65535 blocks
      5 a part past its store, or shared with one that is held, or an empty one to publish
      6 not a reservation, or an object has it
      7 32 objects, 64 numbers or 4 waiting FDTs are held already
      8 no such session
      9 no record
-   The smallest that applies is told. But for a set-up, a refused call changes nothing. */
+   The smallest that applies is told. A refused call changes nothing. */
 #ifndef SALTDOODLE_H
 #define SALTDOODLE_H
 
@@ -62,7 +62,7 @@ typedef struct sd_time {
 } sd_time;
 
 /* How an object is sent. */
-typedef struct sd_rule {
+typedef struct sd_plan {
     uint32_t most;       /* transfers in a round; then the carousel's wait begins, or, without one, the object leaves */
     bool repeats;        /* is there a carousel? */
     bool from_start;     /* its interval counts from the last start, else from the last end */
@@ -71,7 +71,7 @@ typedef struct sd_rule {
     bool by_time;        /* `target` is a time to end by, else a duration */
     uint64_t target;
     bool stop_at_once;   /* may it be stopped before it was sent once? */
-} sd_rule;
+} sd_plan;
 
 /* An object to add. */
 typedef struct sd_object {
@@ -79,7 +79,7 @@ typedef struct sd_object {
     sd_part part;        /* of the object store */
     bool own;            /* has it sizes of its own, else those of the set-up? */
     sd_sizes sizes;
-    sd_rule rule;
+    sd_plan plan;
     sd_time start;       /* the earliest start, if any */
     bool named;          /* has it the reserved number `toi`, else a new one? */
     uint64_t toi;
@@ -161,51 +161,51 @@ typedef struct sd_record {
 } sd_record;
 
 /* Fills the sender. */
-uint32_t sender_set_up(sd_sender *s, sd_setup z);
+uint32_t sd_set_up(sd_sender *s, sd_setup z);
 
 /* Reserves an object number. */
-sd_numbered sender_reserve(sd_sender *s);
+sd_numbered sd_reserve(sd_sender *s);
 
 /* Gives up a reservation that no object has. */
-uint32_t sender_release(sd_sender *s, uint64_t toi);
+uint32_t sd_release(sd_sender *s, uint64_t toi);
 
 /* Adds an object. */
-sd_numbered sender_add(sd_sender *s, sd_object o);
+sd_numbered sd_add(sd_sender *s, sd_object o);
 
 /* Takes an object off the list; was it there? */
-bool sender_remove(sd_sender *s, uint64_t toi);
+bool sd_remove(sd_sender *s, uint64_t toi);
 
 /* Forgets when an object was last sent, and sets its earliest start if one is known, unless it is being sent; is it listed? */
-bool sender_trigger(sd_sender *s, uint64_t toi, sd_time start);
+bool sd_trigger(sd_sender *s, uint64_t toi, sd_time start);
 
 /* From here on no object is added. */
-void sender_complete(sd_sender *s);
+void sd_complete(sd_sender *s);
 
 /* Queues an FDT: a part of the FDT store. */
-uint32_t sender_publish(sd_sender *s, uint64_t at, sd_part part);
+uint32_t sd_publish(sd_sender *s, uint64_t at, sd_part part);
 
 /* Asks the FDT session for a packet; `draft` is the FDT to publish if it is time for one, and of length 0 is none. */
-sd_sent sender_run_fdt(sd_sender *s, uint64_t at, sd_part draft);
+sd_sent sd_run_fdt(sd_sender *s, uint64_t at, sd_part draft);
 
 /* Asks file session i for a packet. */
-sd_sent sender_run(sd_sender *s, uint64_t i, uint64_t at);
+sd_sent sd_run(sd_sender *s, uint64_t i, uint64_t at);
 
 /* Is the object listed? */
-bool sender_listed(const sd_sender *s, uint64_t toi);
+bool sd_listed(const sd_sender *s, uint64_t toi);
 
 /* How often was it sent? */
-sd_counted sender_transfers(const sd_sender *s, uint64_t toi);
+sd_counted sd_transfers(const sd_sender *s, uint64_t toi);
 
 /* Where the packet's payload stands, in stores of these lengths; without a packet, or past its store, the object store's empty part. */
-sd_place sender_payload(uint64_t object_store, uint64_t fdt_store, sd_sent s);
+sd_place sd_payload(uint64_t object_store, uint64_t fdt_store, sd_sent s);
 
 /* Writes the packet's record; where it is refused, nothing is written. */
-uint32_t sender_record(uint8_t out[SD_RECORD_SIZE], sd_sent s);
+uint32_t sd_record_write(uint8_t out[SD_RECORD_SIZE], sd_sent s);
 
 /* Reads a record. */
-sd_record record_read(const uint8_t bytes[SD_RECORD_SIZE]);
+sd_record sd_record_read(const uint8_t bytes[SD_RECORD_SIZE]);
 
-/* The layout that libhost.a has. */
+/* The layout that libsaltdoodle.a has. */
 SD_SAME(sizeof(bool) == 1);
 SD_SAME(sizeof(sd_sender) == 8280);
 SD_SAME(alignof(sd_sender) == 8);
@@ -222,22 +222,22 @@ SD_SAME(sizeof(sd_time) == 16);
 SD_SAME(offsetof(sd_time, known) == 0);
 SD_SAME(offsetof(sd_time, at) == 8);
 
-SD_SAME(sizeof(sd_rule) == 40);
-SD_SAME(offsetof(sd_rule, most) == 0);
-SD_SAME(offsetof(sd_rule, repeats) == 4);
-SD_SAME(offsetof(sd_rule, from_start) == 5);
-SD_SAME(offsetof(sd_rule, interval) == 8);
-SD_SAME(offsetof(sd_rule, paced) == 16);
-SD_SAME(offsetof(sd_rule, by_time) == 17);
-SD_SAME(offsetof(sd_rule, target) == 24);
-SD_SAME(offsetof(sd_rule, stop_at_once) == 32);
+SD_SAME(sizeof(sd_plan) == 40);
+SD_SAME(offsetof(sd_plan, most) == 0);
+SD_SAME(offsetof(sd_plan, repeats) == 4);
+SD_SAME(offsetof(sd_plan, from_start) == 5);
+SD_SAME(offsetof(sd_plan, interval) == 8);
+SD_SAME(offsetof(sd_plan, paced) == 16);
+SD_SAME(offsetof(sd_plan, by_time) == 17);
+SD_SAME(offsetof(sd_plan, target) == 24);
+SD_SAME(offsetof(sd_plan, stop_at_once) == 32);
 
 SD_SAME(sizeof(sd_object) == 120);
 SD_SAME(offsetof(sd_object, priority) == 0);
 SD_SAME(offsetof(sd_object, part) == 8);
 SD_SAME(offsetof(sd_object, own) == 24);
 SD_SAME(offsetof(sd_object, sizes) == 32);
-SD_SAME(offsetof(sd_object, rule) == 48);
+SD_SAME(offsetof(sd_object, plan) == 48);
 SD_SAME(offsetof(sd_object, start) == 88);
 SD_SAME(offsetof(sd_object, named) == 104);
 SD_SAME(offsetof(sd_object, toi) == 112);

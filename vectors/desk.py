@@ -4,13 +4,14 @@ it writes the answers, crates/desk/stdout.
 
     python3 vectors/desk.py ORACLE
 
-ORACLE is the original Rust (src/sender/ as it is) behind a program that reads the language of oracle/README.md, one call a
+ORACLE is the original Rust (src/sender/ as it is) behind a program that reads the language of docs/SCRIPTS.md, one call a
 line. Every call that is accepted is given to it, and its answers are stored; on the way they are held to those of the model,
-oracle/tools/model.py. The answers to three kinds of lines are not the Rust's:
+oracle/tools/model.py. The answers to four kinds of lines are not the Rust's:
 
 - `refused N` is the model's: the Rust has no such refusals and is not given these calls. `refused` alone answers a `drain`
   whose numbers are not admitted.
 - `error` is stated here, for lines that cannot be read and for calls where there is no sender.
+- Those to commands on records are stated in vectors/record.py: the Rust has no records.
 - In the scripts of oracle/claims on which the two differ (docs/DIFFERENCES.md), the answers are the model's.
 
 The random scripts are those of oracle/tools/gen.py; another Python than 3.11 may draw others.
@@ -26,6 +27,8 @@ ROOT = pathlib.Path(__file__).resolve().parent.parent
 CASES, LESSON = ROOT / "crates" / "desk_cases", ROOT / "crates" / "desk"
 sys.path.insert(0, str(ROOT / "oracle" / "tools"))
 
+import record
+import sizes
 from gen import generate
 from model import SECOND, Script
 
@@ -327,9 +330,9 @@ def no_sender():
         yield from rust(f"partition {l} {e} {b}")
         yield from rust(*(f"blocklength {l} {e} {b} {k}" for k in rng.sample([0, 1, 2, 3, 65535, 2**32 - 1], 2)))
     for _ in range(30):
-        large, e, bigs, k = rng.randint(1, 99), rng.randint(1, 99), rng.randrange(5), rng.randrange(9)
-        start = (min(k, bigs) * large + max(0, k - bigs) * (large - 1)) * e
-        yield from rust(f"rawlength {large} {large - 1} {bigs} {max(0, start + rng.choice((-1, 0, 1, e, 99 * e)))} {e} {k}")
+        large, e, nb_a_large, k = rng.randint(1, 99), rng.randint(1, 99), rng.randrange(5), rng.randrange(9)
+        start = (min(k, nb_a_large) * large + max(0, k - nb_a_large) * (large - 1)) * e
+        yield from rust(f"rawlength {large} {large - 1} {nb_a_large} {max(0, start + rng.choice((-1, 0, 1, e, 99 * e)))} {e} {k}")
         yield from rust("rawlength %d %d %d %d %d %d" % (*(rng.choice(numbers) for _ in range(5)), rng.choice((0, 1, 5, 2**32 - 1))))
     for line in ["0 1 1 1", "0 65535 65535 16", "1 1 1 1", "10 2 2 2", "10 2 2 3", "13 1 4 2", "23 3 7 2", "11 1 3 16", "40 1 3 5", "199 2 7 4",
                  "65535 65535 65535 16", "010 0002 2 02", "\t10   2\t2 2 "]:
@@ -342,6 +345,16 @@ def no_sender():
         yield Case("drain " + line, "stated", ["refused"])
     yield from error(f"drain {2**64} 65535 65535 1", f"drain {2**64 + 10} 2 2 2", f"drain 10 2 2 {2**64 + 2}")
     yield from rust("reserve")
+
+
+def partitions():
+    yield from silent("# partitions and block lengths")
+    yield from rust(*sizes.calls())
+
+
+def records():
+    yield from silent("# records")
+    yield from (Case(line, "stated", [answer]) for line, answer in record.cases())
 
 
 # The lesson.
@@ -390,7 +403,7 @@ def write(folder, name, lines):
 
 def main():
     parts = [first_lines, random_scripts, refusals, claims, refused_setups, not_cut, store_ends, rare, unread_lines, spoilt_scripts,
-             spaced_scripts, no_sender]
+             spaced_scripts, no_sender, partitions, records]
     cases = list(answered(sys.argv[1], [case for part in parts for case in part()]))
     write(CASES, "stdin", [case.line for case in cases])
     write(CASES, "stdout", [line for case in cases for line in case.answer])

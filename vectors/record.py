@@ -1,14 +1,9 @@
-#!/usr/bin/env python3
-"""Writes what crates/record_cases replays: record commands of `desk` (its stdin) and their answers (its stdout).
-
-    python3 vectors/record.py
+"""Record commands for crates/desk_cases, with their answers: vectors/desk.py stores both.
 
 The answers come from the layout alone: each field as a string of bits, one behind the other. No other program is asked.
 """
-import pathlib
 import random
 
-CASES = pathlib.Path(__file__).resolve().parent.parent / "crates" / "record_cases"
 WIDTHS = (1, 1, 20, 64, 16, 16, 16, 48, 16)  # FDT, close, FDT id, TOI, block, symbol, length, transfer length, count
 TYPES = (1, 1, 32, 64, 32, 32, 64, 64, 64)  # bits that the command's numbers may have
 PADDING = 26
@@ -115,14 +110,3 @@ def unreadable():
         yield bad, "error"
     for bad in ("readrecord", "readrecord 0", "readrecord 0g", "readrecord 00 00", "readrecord --", "readrecord -0", "readrecord 0x00"):
         yield bad, "error"
-
-
-def main():
-    lines = list(cases())
-    CASES.mkdir(parents=True, exist_ok=True)
-    (CASES / "stdin").write_text("".join(c + "\n" for c, _ in lines))
-    (CASES / "stdout").write_text("".join(a + "\n" for _, a in lines))
-
-
-if __name__ == "__main__":
-    main()

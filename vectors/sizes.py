@@ -1,9 +1,6 @@
-#!/usr/bin/env python3
-"""Prints the calls that crates/sizes_cases replays: partition, block lengths from a partition, block lengths from raw sizes.
+"""Calls for crates/desk_cases that need no sender: partitions, block lengths from a partition, block lengths from raw sizes.
 
-    python3 vectors/sizes.py > crates/sizes_cases/stdin
-
-The answers in crates/sizes_cases/stdout are those that the original Rust (src/common/partition.rs) gave to these lines.
+vectors/desk.py gives them to the original Rust (src/common/partition.rs) and stores its answers.
 """
 import random
 
@@ -36,7 +33,7 @@ def around(n):
     return sorted({k for k in (0, 1, n // 2, n - 2, n - 1, n, n + 1, 2**32 - 1) if 0 <= k < 2**32})
 
 
-def main():
+def calls():
     rng = random.Random(5052)
     lines = []
     # every small case, among them one short of and at each size
@@ -77,13 +74,9 @@ def main():
         small = rng.choice((large, large - 1, 0))
         lines.append(f"rawlength {large} {small} {rng.randrange(4)} {rng.choice((TOP, TOP - 1, number(rng)))} {e} {rng.randrange(4)}")
     for _ in range(300):
-        large, e, bigs, k = rng.randint(1, 99), rng.randint(1, 99), rng.randrange(5), rng.randrange(9)
-        start = (min(k, bigs) * large + max(0, k - bigs) * (large - 1)) * e
-        lines.append(f"rawlength {large} {large - 1} {bigs} {max(0, start + rng.choice((-1, 0, 1, e, 99 * e)))} {e} {k}")
+        large, e, nb_a_large, k = rng.randint(1, 99), rng.randint(1, 99), rng.randrange(5), rng.randrange(9)
+        start = (min(k, nb_a_large) * large + max(0, k - nb_a_large) * (large - 1)) * e
+        lines.append(f"rawlength {large} {large - 1} {nb_a_large} {max(0, start + rng.choice((-1, 0, 1, e, 99 * e)))} {e} {k}")
     for _ in range(700):
         lines.append("rawlength %d %d %d %d %d %d" % (*(number(rng) for _ in range(5)), number(rng) % 2**32))
-    print("\n".join(lines))
-
-
-if __name__ == "__main__":
-    main()
+    return lines

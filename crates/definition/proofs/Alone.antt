@@ -8,18 +8,21 @@ use native.Mathlib.Omega.{arith}
 use lib.Dec.{eqb, leb}
 use borrow.Author.Tests.{eqb-true, eq-eqb, ne-eqb, leb-false, lt-leb}
 use lib.ListN.{length}
-use Rattle.sizes.specs.Words.{if_then_else_, maybe, given, any, at, first-of, over, Each}
+use Rattle.sizes.specs.Words.{if_then_else_, maybe, given, any, at, over, Each}
+use Rattle.sizes.specs.declared.refusal.Refusal.{Refusal}
+use Rattle.sizes.specs.declared.refusal.Refusal.the-variants as Because
 use Rattle.sizes.specs.Limits.{object-slots}
 use Rattle.lifecycle.specs.Parts.{shares, past-store}
 use Rattle.lifecycle.specs.declared.parts.Part.{Part}
-use Rattle.lifecycle.specs.Setup.{Setup, bad-blocks}
+use Rattle.lifecycle.specs.Setup.{Setup}
 use Rattle.definition.specs.Session.{Object, Hand, Session}
-use Rattle.definition.specs.Desk.{Desk, Request, Call, Answer, opening, in-hands, objects, is, reserved, toi-for, admitted, own-sizes, no-session, bad-object-part, not-loose, full, no-room, add-refusal, Result, unless, step}
-use Rattle.definition.specs.Apart.{mine, owns, about, adding, number-in, noted, key, call-by, answer-by, is-5-to-7, turned-away}
+use Rattle.definition.specs.Desk.{Desk, Request, Call, Answer, opening, in-hands, objects, is, reserved, toi-for, admitted, bad-object-part, not-loose, full, no-room, add-refusal, Result, unless, step}
+use Rattle.definition.specs.Apart.{mine, owns, about, adding, number-in, got-after, key, call-by, answer-by, is-barred, turned-away}
 use Rattle.definition.proofs.Numbers.{Unique, unique-step, unique-opening, tois, admissible}
+use Rattle.definition.proofs.RefusalTables.{early-refusal, late-no, add-early, add-unreached}
 use Rattle.definition.proofs.View.{retag, retag-held, seen, see, seen-append}
 use Rattle.definition.proofs.Known.{Noted, Fits, Known, known-step, known-opening}
-use Rattle.definition.proofs.ApartLaws.{got, got-key, view, early-refusal, own-step, owned-noted, objects-noted, hidden, shown, Same-mine, same-mine, early-seen, late-no, add-early}
+use Rattle.definition.proofs.ApartLaws.{got, got-key, view, own-step, owned-noted, objects-noted, hidden, shown, Same-mine, same-mine, early-seen}
 use Rattle.sizes.proofs.Tests.{or-left, or-right, none≢some}
 use Rattle.sizes.proofs.Lists.{at-map}
 
@@ -107,7 +110,7 @@ session-seen p f l n = ap (maybe false (λ (x : Session). eqb (x .priority) p)) 
     go (some x) = refl
 
 -- a session of the priority stands there at the same place
-pub session-there : (s : Setup) (p : ℕ) (j : List ℕ) (d : Desk) (i : List ℕ) (e : Desk) (now n : ℕ) → Rel s p j d i e → about p d (Call.run-file now n) ≡ true → about p e (Call.run-file now n) ≡ true
+pub session-there : (s : Setup) (p : ℕ) (j : List ℕ) (d : Desk) (i : List ℕ) (e : Desk) (now n : ℕ) → Rel s p j d i e → about p d (Call.run-file n now) ≡ true → about p e (Call.run-file n now) ≡ true
 unfolding about
 session-there s p j d i e now n r a = sym (session-seen p (key i) (e .sessions) n) ∙ ap (λ (v : Desk). maybe false (λ (x : Session). eqb (x .priority) p) (at (v .sessions) n)) (sym (r .same))
     ∙ session-seen p (key j) (d .sessions) n ∙ a
@@ -168,33 +171,18 @@ module _ (s : Setup) (p : ℕ) (j : List ℕ) (d : Desk) (i : List ℕ) (e : Des
   early-there : (q : Request) → early-refusal s e q ≡ early-refusal s d q
   early-there q = sym (early-seen p i s e q) ∙ ap (λ v. early-refusal s v q) (sym (r .same)) ∙ early-seen p j s d q
 
--- rows 5, 6 and 7 are not reached
-unreached : (a b c d e f : Bool) → (first-of ((2, a) ∷ (3, b) ∷ (4, c) ∷ []) ≡ none → (d ≡ false) × (e ≡ false) × (f ≡ false))
-    → late-no (first-of ((2, a) ∷ (3, b) ∷ (4, c) ∷ (5, d) ∷ (6, e) ∷ (7, f) ∷ [])) ≡ false
-unreached true b c d e f h = refl
-unreached false true c d e f h = refl
-unreached false false true d e f h = refl
-unreached false false false d e f h = let z = h refl in rw (z .0, z .1, z .2)
-
-late-unless : (x : Option ℕ) (d : Desk) (t : ℕ) (d′ : Desk) → is-5-to-7 (unless x d (Answer.number t, d′) .0) ≡ late-no x
+late-unless : (x : Option Refusal) (d : Desk) (t : ℕ) (d′ : Desk) → is-barred (unless x d (Answer.number t, d′) .0) ≡ late-no x
 late-unless none d t d′ = refl
 late-unless (some n) d t d′ = refl
-
-unreached-add : (s : Setup) (e : Desk) (named : Option ℕ) (q : Request)
-    → (early-refusal s e q ≡ none → (bad-object-part s e (q .part) ≡ false) × (not-loose e named ≡ false) × (no-room e named ≡ false))
-    → late-no (add-refusal s e named q) ≡ false
-unfolding add-refusal early-refusal
-unreached-add s e named q h =
-    unreached (no-session e (q .priority)) (e .complete) (bad-blocks (own-sizes s q) (q .part .size)) (bad-object-part s e (q .part)) (not-loose e named) (no-room e named) h
 
 -- an add that does not meet 5, 6 or 7 does not meet them there
 pub add-there : (s : Setup) (p : ℕ) (j : List ℕ) (d : Desk) (i : List ℕ) (e : Desk) (named named′ : Option ℕ) (q : Request) → Rel s p j d i e
     → (add-refusal s d named q ≡ none → (not-loose e named′ ≡ false) × (no-room e named′ ≡ false))
-    → is-5-to-7 (step s d (Call.add named q) .0) ≡ false → is-5-to-7 (step s e (Call.add named′ q) .0) ≡ false
+    → is-barred (step s d (Call.add named q) .0) ≡ false → is-barred (step s e (Call.add named′ q) .0) ≡ false
 unfolding step
 add-there s p j d i e named named′ q r k h =
     late-unless (add-refusal s e named′ q) e (toi-for e named′) (admitted s (toi-for e named′) q (if given named′ then e else reserved s e))
-    ∙ unreached-add s e named′ q rows
+    ∙ add-unreached s e named′ q (λ z. let r = rows z in (r .0, (r .1, (r .2, tt))))
   where
     on-time : late-no (add-refusal s d named q) ≡ false
     on-time = sym (late-unless (add-refusal s d named q) d (toi-for d named) (admitted s (toi-for d named) q (if given named then d else reserved s d))) ∙ h
@@ -210,17 +198,15 @@ unfolding about
 about-add p d (Call.add named q) x e = let z : (named, q) ≡ x = cc in ap (λ (y : Option ℕ × Request). eqb (y .1 .priority) p) z
 about-add p d Call.reserve x e = absurd (none≢some e)
 about-add p d (Call.release t) x e = absurd (none≢some e)
-about-add p d (Call.remove t) x e = absurd (none≢some e)
-about-add p d (Call.trigger t f) x e = absurd (none≢some e)
-about-add p d (Call.listed t) x e = absurd (none≢some e)
-about-add p d (Call.transfers t) x e = absurd (none≢some e)
+about-add p d (Call.touch t y) x e = absurd (none≢some e)
+about-add p d (Call.ask q) x e = absurd (none≢some e)
 about-add p d Call.complete x e = absurd (none≢some e)
 about-add p d (Call.publish now c) x e = absurd (none≢some e)
 about-add p d (Call.run-fdt now draft) x e = absurd (none≢some e)
-about-add p d (Call.run-file now n) x e = absurd (none≢some e)
+about-add p d (Call.run-file n now) x e = absurd (none≢some e)
 
 -- a call that does not admit for a priority notes nothing for it
-noted-other : (r : ℕ) (c : Call) (a : Answer) (j : List ℕ) → ((x : Option ℕ × Request) → adding c ≡ some x → eqb (x .1 .priority) r ≡ false) → noted r c a j ≡ j
+noted-other : (r : ℕ) (c : Call) (a : Answer) (j : List ℕ) → ((x : Option ℕ × Request) → adding c ≡ some x → eqb (x .1 .priority) r ≡ false) → got-after r c a j ≡ j
 noted-other r c a j h = go (adding c) refl
   where
     nothing : (n : Option ℕ) → maybe j (λ (t : ℕ). j) n ≡ j
@@ -232,15 +218,15 @@ noted-other r c a j h = go (adding c) refl
     go (some x) e = simp (h x e) (nothing (number-in a))
 
 -- a call that is not the priority's notes nothing for it, and one that is nothing for another
-pub noted-hidden : (p : ℕ) (d : Desk) (c : Call) (a : Answer) (j : List ℕ) → about p d c ≡ false → noted p c a j ≡ j
+pub noted-hidden : (p : ℕ) (d : Desk) (c : Call) (a : Answer) (j : List ℕ) → about p d c ≡ false → got-after p c a j ≡ j
 noted-hidden p d c a j h = noted-other p c a j (λ x e. sym (about-add p d c x e) ∙ h)
 
-noted-none : (p r : ℕ) (e : Desk) (c : Call) (a : Answer) → about p e c ≡ true → eqb r p ≡ false → noted r c a [] ≡ []
+noted-none : (p r : ℕ) (e : Desk) (c : Call) (a : Answer) → about p e c ≡ true → eqb r p ≡ false → got-after r c a [] ≡ []
 noted-none p r e c a h z = noted-other r c a [] (λ x y. ne-eqb (x .1 .priority) r (λ w. true≢false (sym (eq-eqb r p (sym w ∙ eqb-true (x .1 .priority) p (sym (about-add p e c x y) ∙ h))) ∙ z)))
 
 module _ (s : Setup) (p : ℕ) (w : 16 ≤ s .width) where
   -- a call that is not the priority's
-  pub rel-hidden : (j : List ℕ) (d : Desk) (i : List ℕ) (e : Desk) (c : Call) → Rel s p j d i e → about p d c ≡ false → Rel s p (noted p c (step s d c .0) j) (step s d c .1) i e
+  pub rel-hidden : (j : List ℕ) (d : Desk) (i : List ℕ) (e : Desk) (c : Call) → Rel s p j d i e → about p d c ≡ false → Rel s p (got-after p c (step s d c .0) j) (step s d c .1) i e
   rel-hidden j d i e c r a = record {
     unique = unique-step s d c w (r .unique);
     known = known-step p j s d c (r .known);
@@ -253,12 +239,12 @@ module _ (s : Setup) (p : ℕ) (w : 16 ≤ s .width) where
   -- one of the priority's, and its like there: the two are answered alike
   module _ (j : List ℕ) (d : Desk) (i : List ℕ) (e : Desk) (c c′ : Call) (r : Rel s p j d i e) (a : about p d c ≡ true) (h : turned-away p c (step s d c .0) ≡ false)
       (a′ : about p e c′ ≡ true) (n : call-by (key i) c′ ≡ call-by (key j) c) (h′ : turned-away p c′ (step s e c′ .0) ≡ false) where
-    pub both : _≡_ {A = Result} (answer-by (key (noted p c (step s d c .0) j)) (step s d c .0), view p (noted p c (step s d c .0) j) (step s d c .1))
-        (answer-by (key (noted p c′ (step s e c′ .0) i)) (step s e c′ .0), view p (noted p c′ (step s e c′ .0) i) (step s e c′ .1))
+    pub both : _≡_ {A = Result} (answer-by (key (got-after p c (step s d c .0) j)) (step s d c .0), view p (got-after p c (step s d c .0) j) (step s d c .1))
+        (answer-by (key (got-after p c′ (step s e c′ .0) i)) (step s e c′ .0), view p (got-after p c′ (step s e c′ .0) i) (step s e c′ .1))
     both = sym (shown p j s d c (r .unique) (r .known) a h) ∙ ap (λ v. own-step s v (call-by (key j) c)) (r .same) ∙ ap (own-step s (view p i e)) (sym n)
         ∙ shown p i s e c′ (r .unique′) (r .known′) a′ h′
 
-    pub rel-shown : Rel s p (noted p c (step s d c .0) j) (step s d c .1) (noted p c′ (step s e c′ .0) i) (step s e c′ .1)
+    pub rel-shown : Rel s p (got-after p c (step s d c .0) j) (step s d c .1) (got-after p c′ (step s e c′ .0) i) (step s e c′ .1)
     rel-shown = record {
       unique = unique-step s d c w (r .unique);
       known = known-step p j s d c (r .known);

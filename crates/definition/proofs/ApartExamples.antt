@@ -7,7 +7,7 @@ use Prim.Native.Nat.{ℕ}
 use Rattle.sizes.specs.Partition.{sbn, esi}
 use Rattle.lifecycle.specs.declared.parts.Part.{Part}
 use Rattle.definition.specs.FdtSession.{Packet}
-use Rattle.definition.specs.Desk.{Call, Answer, opening}
+use Rattle.definition.specs.Desk.{Touch, Question, Call, Answer, opening}
 use Rattle.definition.specs.Apart.{owns, about, calls, answers, smooth, claims, reserves, asks-loose, only, lone}
 use Rattle.definition.specs.Sheet.{setup, bytes, object}
 use Rattle.definition.proofs.Opened.{opened-desk}
@@ -21,18 +21,18 @@ example-run : List Call
 example-run =
     Call.add none (object 7 10 4 1)
     ∷ Call.reserve
-    ∷ Call.listed 65_535
+    ∷ Call.ask (Question.listed 65_535)
     ∷ Call.reserve
-    ∷ Call.listed 1
+    ∷ Call.ask (Question.listed 1)
     ∷ Call.release 1
     ∷ Call.add (some 65_535) (object 3 20 2 2)
     ∷ Call.publish 100 (bytes 0 2)
     ∷ Call.run-fdt 100 none
-    ∷ Call.remove 65_534
-    ∷ Call.listed 65_534
-    ∷ Call.listed 65_535
-    ∷ Call.run-file 100 1
-    ∷ Call.run-file 100 0
+    ∷ Call.touch 65_534 Touch.remove
+    ∷ Call.ask (Question.listed 65_534)
+    ∷ Call.ask (Question.listed 65_535)
+    ∷ Call.run-file 1 100
+    ∷ Call.run-file 0 100
     ∷ []
 
 record Example : Type 0 where
@@ -40,7 +40,7 @@ record Example : Type 0 where
   smooth-3 : smooth setup 3 (opening setup) example-run ≡ true
   -- its calls: its object is its first admission
   about-3 : calls setup 3 [] (opening setup) example-run
-      ≡ Call.add none (object 3 20 2 2) ∷ Call.publish 100 (bytes 0 2) ∷ Call.run-fdt 100 none ∷ Call.listed 1 ∷ Call.run-file 100 1 ∷ []
+      ≡ Call.add none (object 3 20 2 2) ∷ Call.publish 100 (bytes 0 2) ∷ Call.run-fdt 100 none ∷ Call.ask (Question.listed 1) ∷ Call.run-file 1 100 ∷ []
   -- what it is told
   told-3 : answers setup 3 [] (opening setup) example-run
       ≡ Answer.number 1
@@ -52,12 +52,12 @@ record Example : Type 0 where
   -- the run where only its calls are made: its reservation and the question after it are there, and the numbers are those that it gets there
   only-3 : lone setup 3 example-run
       ≡ Call.reserve
-      ∷ Call.listed 65_534
+      ∷ Call.ask (Question.listed 65_534)
       ∷ Call.add (some 65_534) (object 3 20 2 2)
       ∷ Call.publish 100 (bytes 0 2)
       ∷ Call.run-fdt 100 none
-      ∷ Call.listed 65_534
-      ∷ Call.run-file 100 1
+      ∷ Call.ask (Question.listed 65_534)
+      ∷ Call.run-file 1 100
       ∷ []
 
 example : Example

@@ -8,21 +8,23 @@ use native.Mathlib.Omega.{arith}
 use lib.Dec.{eqb}
 use borrow.Author.Tests.{eqb-true, eqb-false, eq-eqb, ne-eqb, not-false, not-true}
 use lib.ListN.{length, set}
-use Rattle.sizes.specs.Words.{if_then_else_, maybe, given, any, at, has, find, first-of, within, over, Each, times, one-if}
+use Rattle.sizes.specs.Words.{if_then_else_, maybe, given, any, at, has, find, first-of, over, Each, times, one-if}
+use Rattle.sizes.specs.declared.refusal.Refusal.{Refusal}
+use Rattle.sizes.specs.declared.refusal.Refusal.the-variants as Because
 use Rattle.lifecycle.specs.declared.parts.Part.{Part}
-use Rattle.definition.specs.Encoder.{Encoder, Symbol, fresh, read}
-use Rattle.lifecycle.specs.Lifecycle.{triggered}
 use Rattle.lifecycle.specs.Setup.{Setup, bad-blocks}
-use Rattle.lifecycle.specs.Fdt.{Instance, next-fdt, fdt-done}
-use Rattle.definition.specs.FdtSession.{Fdt, FdtTurn, FdtHand, Packet, fdt-published, fdt-send, fdt-attempt, fdt-idle, fdt-run}
-use Rattle.definition.specs.Session.{Object, Hand, Session, living, Turn, file-run}
-use Rattle.definition.specs.Desk.{Desk, Request, Call, Answer, opening, in-hands, objects, numbers, is, listed-in-hands, listed-as, moved, numbered, with-fdt, in-hand, marked, marked-hand, all-published, unlisted, removed, prompted, reserved, toi-for, made, admitted, own-sizes, no-session, bad-object-part, not-loose, full, no-room, add-refusal, publish-refusal, draft-refusal, draft-of, Result, unless, ran, step, unloosed, fdt-queued, fdt-ran}
-use Rattle.definition.specs.Apart.{mine, owns, about, noted, key, call-by, packet-by, perhaps-by, answer-by, is-5-to-7, turned-away, calls, answers, smooth, Alike as AlikeRuns, PacketNamed, Named}
+use Rattle.definition.specs.FdtSession.{Fdt, FdtTurn, Packet, fdt-published, fdt-run, fdt-sent}
+use Rattle.definition.specs.Session.{Object, Hand, Session, Turn, file-run}
+use Rattle.definition.specs.Desk.{Desk, Request, Call, Answer, opening, in-hands, objects, numbers, is, listed-in-hands, listed-as, moved, numbered, with-fdt, in-hand, marked, marked-hand, all-published, reserved, toi-for, made, admitted, own-sizes, no-session, not-loose, reserve-refusal, release-refusal, add-refusal, publish-refusal, draft-refusal, draft-of, Result, unless, ran, step, unloosed, fdt-queued, fdt-ran, Touch, Question, waiting-after, hand-after, touched-waiting, touched-hand, touched, answer-to}
+use Rattle.definition.specs.Apart.{mine, owns, about, got-after, key, call-by, packet-by, answer-by, is-barred, turned-away, calls, answers, smooth, Alike as AlikeRuns, PacketOf, NumberOf, OwnNumbers, about-question, question-by}
 use Rattle.definition.proofs.Numbers.{Unique, unique-step, unique-opening, tois, admissible}
-use Rattle.definition.proofs.View.{retag, retag-held, seen, see, seen-append, seen-mine, seen-other, Alike, seen-find, seen-map, seen-keep, seen-kept, seen-unmoved, see-turn, Sends, file-run-seen}
+use Rattle.definition.proofs.RefusalTables.{early-refusal, late-no, add-early}
+use Rattle.definition.proofs.View.{retag, retag-held, seen, see, seen-append, seen-mine, seen-other, Alike, seen-find, seen-map, see-turn, Sends, file-run-seen}
 use Rattle.definition.proofs.Known.{Noted, HeldFits, Fits, PacketNoted, Known, file-run-known, file-run-other, known-step, known-opening}
 use Rattle.sizes.proofs.Tests.{Tested, pass, fail, tested, and-left, and-right, or-left, or-right}
 use Rattle.sizes.proofs.Lists.{each-append, each-imp, each-at, map-set, map-set-same, at-map, times-append, has-times, each-left, each-right, each-both, each-all, map-comm, map-hidden}
+use Rattle.definition.proofs.Touches.{touched-kept, renumbered-after, seen-touched, seen-still}
+use Rattle.definition.proofs.Runs.{fdt-run-goes}
 
 -- the number that an admission got, the last of them first
 unfoldable pub got : List ℕ → ℕ → ℕ
@@ -62,10 +64,6 @@ view p j d = record {
   fdt = d .fdt;
 }
 
--- why an add is refused on a desk that has only the priority's calls
-unfoldable pub early-refusal : Setup → Desk → Request → Option ℕ
-early-refusal s d q = first-of ((2, no-session d (q .priority)) ∷ (3, d .complete) ∷ (4, bad-blocks (own-sizes s q) (q .part .size)) ∷ [])
-
 -- the desk with one more object, under the next key
 abbrev pub one-more : Setup → Request → Desk → Desk
 one-more s q d = record {
@@ -82,14 +80,12 @@ abbrev pub own-step : Setup → Desk → Call → Result
 own-step s d (Call.add named q) = unless (early-refusal s d q) d (Answer.number (d .next), one-more s q d)
 own-step s d Call.reserve = step s d Call.reserve
 own-step s d (Call.release t) = step s d (Call.release t)
-own-step s d (Call.remove t) = step s d (Call.remove t)
-own-step s d (Call.trigger t f) = step s d (Call.trigger t f)
-own-step s d (Call.listed t) = step s d (Call.listed t)
-own-step s d (Call.transfers t) = step s d (Call.transfers t)
+own-step s d (Call.touch t x) = step s d (Call.touch t x)
+own-step s d (Call.ask q) = step s d (Call.ask q)
 own-step s d Call.complete = step s d Call.complete
 own-step s d (Call.publish now c) = step s d (Call.publish now c)
 own-step s d (Call.run-fdt now draft) = step s d (Call.run-fdt now draft)
-own-step s d (Call.run-file now i) = step s d (Call.run-file now i)
+own-step s d (Call.run-file i now) = step s d (Call.run-file i now)
 
 abbrev pub own-run : Setup → Desk → List Call → List Answer
 own-run s d [] = []
@@ -296,38 +292,33 @@ published-seen p j d k = λ i. record {
     commute (some h) = λ e. elim (h .listed) as (λ b. retag-held (key j) (if b then record { object = marked (h .object); listed = true; encoder = h .encoder; pace = h .pace } else h)
         ≡ (if b then record { object = marked (retag (key j) (h .object)); listed = true; encoder = h .encoder; pace = h .pace } else retag-held (key j) h)) [ true ↦ refl | false ↦ refl ]
 
--- remove of an owned number, as it is seen
-removed-seen : (p : ℕ) (j : List ℕ) (d : Desk) (t : ℕ) → Known p j d → has t j ≡ true → removed (key j t) (view p j d) ≡ view p j (removed t d)
-unfolding removed moved is unlisted
-removed-seen p j d t k e = λ i. record {
+-- a touch of an owned number, as it is seen
+touched-seen : (p : ℕ) (j : List ℕ) (d : Desk) (t : ℕ) (x : Touch) → Known p j d → has t j ≡ true → touched (key j t) x (view p j d) ≡ view p j (touched t x d)
+unfolding touched moved is touched-waiting touched-hand
+touched-seen p j d t x k e = λ i. record {
   complete = d .complete;
   next = suc (length j);
   loose = [];
   fdt = d .fdt;
-  queue = sym (seen-keep p (key j) (λ o. not (is t o)) (λ o. not (is (key j t) o)) (d .queue)
-      (each-imp (Noted p j) (λ o. mine p o ≡ true → not (eqb (key j (o .toi)) (key j t)) ≡ not (eqb (o .toi) t)) (λ o n m. ap not (key-eqb j t (o .toi) e (n m))) (d .queue) (k .waiting))) i;
-  sessions = sym (map-comm (see p (key j)) (in-hand (unlisted t)) (in-hand (unlisted (key j t))) (d .sessions)
-      (each-imp (Fits p j) (λ x. see p (key j) (in-hand (unlisted t) x) ≡ in-hand (unlisted (key j t)) (see p (key j) x))
-      (λ x u. see-in-hand p (key j) (unlisted t) (unlisted (key j t)) j x u (commute (x .priority) (x .hand) u)) (d .sessions) (k .serving))) i;
+  queue = sym (seen-touched (touched-waiting t x) (touched-kept t x) p (key j) (touched-waiting (key j t) x) (d .queue) (each-imp (Noted p j) Commute waits (d .queue) (k .waiting))) i;
+  sessions = sym (map-comm (see p (key j)) (in-hand (touched-hand t x)) (in-hand (touched-hand (key j t) x)) (d .sessions)
+      (each-imp (Fits p j) (λ y. see p (key j) (in-hand (touched-hand t x) y) ≡ in-hand (touched-hand (key j t) x) (see p (key j) y))
+      (λ y u. see-in-hand p (key j) (touched-hand t x) (touched-hand (key j t) x) j y u (commute (y .priority) (y .hand) u)) (d .sessions) (k .serving))) i;
 }
   where
-    commute : (r : ℕ) (h : Option Hand) → HeldFits p j r h → Commutes p (key j) (unlisted t) (unlisted (key j t)) h
+    Commute : Object → Type 0
+    Commute o = mine p o ≡ true → touched-waiting (key j t) x (retag (key j) o) ≡ over (retag (key j)) (touched-waiting t x o)
+
+    waits : (o : Object) → Noted p j o → Commute o
+    waits o n m = rw (key-eqb j t (o .toi) e (n m))
+        (elim (eqb (o .toi) t) as (λ b. (if b then waiting-after x (retag (key j) o) else some (retag (key j) o)) ≡ over (retag (key j)) (if b then waiting-after x o else some o))
+        [ true ↦ renumbered-after (key j) x .0 o | false ↦ refl ])
+
+    commute : (r : ℕ) (h : Option Hand) → HeldFits p j r h → Commutes p (key j) (touched-hand t x) (touched-hand (key j t) x) h
     commute r none u = tt
     commute r (some h) u = λ m. rw (key-eqb j t (h .object .toi) e (u .1 m))
-        (elim (eqb (h .object .toi) t) as (λ b. retag-held (key j) (if b then record { object = h .object; listed = false; encoder = h .encoder; pace = h .pace } else h)
-        ≡ (if b then record { object = retag (key j) (h .object); listed = false; encoder = h .encoder; pace = h .pace } else retag-held (key j) h)) [ true ↦ refl | false ↦ refl ])
-
--- trigger of an owned number, as it is seen
-prompted-seen : (p : ℕ) (j : List ℕ) (q : List Object) (t : ℕ) (x : Option ℕ) → Each (Noted p j) q → has t j ≡ true
-    → map (prompted (key j t) x) (seen p (key j) q) ≡ seen p (key j) (map (prompted t x) q)
-unfolding prompted is
-prompted-seen p j q t x u e = sym (seen-map p (key j) (prompted t x) (prompted (key j t) x) q
-    (each-imp (Noted p j) (λ o. (mine p (prompted t x o) ≡ mine p o) × (mine p o ≡ true → retag (key j) (prompted t x o) ≡ prompted (key j t) x (retag (key j) o)))
-    (λ o n. (
-      (elim (eqb (o .toi) t) as (λ b. mine p (if b then living (triggered x (o .life)) o else o) ≡ mine p o) [ true ↦ refl | false ↦ refl ]),
-      λ m. rw (key-eqb j t (o .toi) e (n m)) (elim (eqb (o .toi) t) as (λ b. retag (key j) (if b then living (triggered x (o .life)) o else o)
-          ≡ (if b then living (triggered x (o .life)) (retag (key j) o) else retag (key j) o)) [ true ↦ refl | false ↦ refl ]),
-    )) q u))
+        (elim (eqb (h .object .toi) t) as (λ b. retag-held (key j) (if b then hand-after x h else h) ≡ (if b then hand-after x (retag-held (key j) h) else retag-held (key j) h))
+        [ true ↦ sym (renumbered-after (key j) x .1 h) | false ↦ refl ])
 
 -- what a session holds has the property
 abbrev pub HeldHas : (Object → Type 0) → Option Hand → Type 0
@@ -353,37 +344,29 @@ each-sent P (x ∷ l) u = go (each-sent P l) (x .hand) u
     go back none v = (tt, back v)
     go back (some h) v = (v .0, back (v .1))
 
--- remove and trigger of a number that is not owned do not show
-removed-hidden : (p : ℕ) (j : List ℕ) (d : Desk) (t : ℕ) → Known p j d → owns p d t ≡ false → view p j (removed t d) ≡ view p j d
-unfolding removed moved owns objects unlisted
-removed-hidden p j d t k e = λ i. record {
+-- a touch of a number that is not owned does not show
+touched-hidden : (p : ℕ) (j : List ℕ) (d : Desk) (t : ℕ) (x : Touch) → Known p j d → owns p d t ≡ false → view p j (touched t x d) ≡ view p j d
+unfolding touched moved owns objects touched-waiting touched-hand
+touched-hidden p j d t x k e = λ i. record {
   complete = d .complete;
   next = suc (length j);
   loose = [];
   fdt = d .fdt;
-  queue = seen-kept p (key j) (λ o. not (is t o)) (d .queue)
-      (each-imp (λ o. mine p o ≡ true → is t o ≡ false) (λ o. mine p o ≡ true → not (is t o) ≡ true) (λ o n m. ap not (n m)) (d .queue)
+  queue = seen-still (touched-waiting t x) (touched-kept t x) p (key j) (d .queue)
+      (each-imp (λ o. mine p o ≡ true → is t o ≡ false) (λ o. mine p o ≡ true → touched-waiting t x o ≡ some o) (λ o n m. rw (n m)) (d .queue)
       (each-left (λ o. mine p o ≡ true → is t o ≡ false) (d .queue) (in-hands (d .sessions)) away)) i;
-  sessions = map-hidden (see p (key j)) (in-hand (unlisted t)) (d .sessions)
-      (each-both (Fits p j) (λ (x : Session). HeldHas (λ o. mine p o ≡ true → is t o ≡ false) (x .hand)) (λ x. see p (key j) (in-hand (unlisted t) x) ≡ see p (key j) x)
-      (λ x u v. see-unmoved p (key j) (unlisted t) (unlisted t) j x u (still (x .hand) v)) (d .sessions) (k .serving)
+  sessions = map-hidden (see p (key j)) (in-hand (touched-hand t x)) (d .sessions)
+      (each-both (Fits p j) (λ (y : Session). HeldHas (λ o. mine p o ≡ true → is t o ≡ false) (y .hand)) (λ y. see p (key j) (in-hand (touched-hand t x) y) ≡ see p (key j) y)
+      (λ y u v. see-unmoved p (key j) (touched-hand t x) (touched-hand t x) j y u (still (y .hand) v)) (d .sessions) (k .serving)
       (each-sent (λ o. mine p o ≡ true → is t o ≡ false) (d .sessions) (each-right (λ o. mine p o ≡ true → is t o ≡ false) (d .queue) (in-hands (d .sessions)) away))) i;
 }
   where
     away : Each (λ o. mine p o ≡ true → is t o ≡ false) (d .queue ++ in-hands (d .sessions))
     away = unowned p t (d .queue ++ in-hands (d .sessions)) e
 
-    still : (h : Option Hand) → HeldHas (λ o. mine p o ≡ true → is t o ≡ false) h → Idle p (key j) (unlisted t) (unlisted t) h
+    still : (h : Option Hand) → HeldHas (λ o. mine p o ≡ true → is t o ≡ false) h → Idle p (key j) (touched-hand t x) (touched-hand t x) h
     still none v = tt
     still (some h) v = λ m. rw (v m)
-
-prompted-hidden : (p : ℕ) (j : List ℕ) (d : Desk) (t : ℕ) (x : Option ℕ) → owns p d t ≡ false
-    → seen p (key j) (map (prompted t x) (d .queue)) ≡ seen p (key j) (d .queue)
-unfolding owns objects prompted
-prompted-hidden p j d t x e = seen-unmoved p (key j) (prompted t x) (d .queue)
-    (each-imp (λ o. mine p o ≡ true → is t o ≡ false) (λ o. (mine p (prompted t x o) ≡ mine p o) × (mine p o ≡ true → prompted t x o ≡ o))
-    (λ o n. ((elim (is t o) as (λ b. mine p (if b then living (triggered x (o .life)) o else o) ≡ mine p o) [ true ↦ refl | false ↦ refl ]), λ m. rw (n m))) (d .queue)
-    (each-left (λ o. mine p o ≡ true → is t o ≡ false) (d .queue) (in-hands (d .sessions)) (unowned p t (d .queue ++ in-hands (d .sessions)) e)))
 
 -- keys that agree on a list's numbers show the same
 seen-same : (p : ℕ) (f g : ℕ → ℕ) (q : List Object) → Each (λ o. f (o .toi) ≡ g (o .toi)) q → seen p f q ≡ seen p g q
@@ -478,36 +461,17 @@ any-see p r f (x ∷ l) = ap (λ b. eqb (x .priority) r || b) (any-see p r f l)
 
 pub early-seen : (p : ℕ) (j : List ℕ) (s : Setup) (d : Desk) (q : Request) → early-refusal s (view p j d) q ≡ early-refusal s d q
 unfolding early-refusal no-session
-early-seen p j s d q = ap (λ b. first-of ((2, not b) ∷ (3, d .complete) ∷ (4, bad-blocks (own-sizes s q) (q .part .size)) ∷ [])) (any-see p (q .priority) (key j) (d .sessions))
-
--- an add that does not meet 5, 6 or 7 is refused for 2, 3, 4 or not at all
-abbrev pub late-no : Option ℕ → Bool
-late-no none = false
-late-no (some n) = within 5 7 n
-
-six-early : (a b c d e f : Bool) → late-no (first-of ((2, a) ∷ (3, b) ∷ (4, c) ∷ (5, d) ∷ (6, e) ∷ (7, f) ∷ [])) ≡ false
-    → first-of ((2, a) ∷ (3, b) ∷ (4, c) ∷ (5, d) ∷ (6, e) ∷ (7, f) ∷ []) ≡ first-of ((2, a) ∷ (3, b) ∷ (4, c) ∷ [])
-six-early true b c d e f h = refl
-six-early false true c d e f h = refl
-six-early false false true d e f h = refl
-six-early false false false true e f h = absurd (true≢false h)
-six-early false false false false true f h = absurd (true≢false h)
-six-early false false false false false true h = absurd (true≢false h)
-six-early false false false false false false h = refl
-
-pub add-early : (s : Setup) (d : Desk) (named : Option ℕ) (q : Request) → late-no (add-refusal s d named q) ≡ false → add-refusal s d named q ≡ early-refusal s d q
-unfolding add-refusal early-refusal
-add-early s d named q h = six-early (no-session d (q .priority)) (d .complete) (bad-blocks (own-sizes s q) (q .part .size)) (bad-object-part s d (q .part)) (not-loose d named) (no-room d named) h
+early-seen p j s d q = ap (λ b. first-of ((Because.NoPriority, not b) ∷ (Because.Complete, d .complete) ∷ (Because.Sizes, bad-blocks (own-sizes s q) (q .part .size)) ∷ [])) (any-see p (q .priority) (key j) (d .sessions))
 
 -- what an add comes to if it is not refused
 abbrev pub add-result : Setup → Desk → Option ℕ → Request → Result
 add-result s d named q = (Answer.number (toi-for d named), admitted s (toi-for d named) q (if given named then d else reserved s d))
 
 -- an add of the priority
-add-shown : (p : ℕ) (j : List ℕ) (s : Setup) (d : Desk) (named : Option ℕ) (q : Request) → Unique s d → eqb (q .priority) p ≡ true → is-5-to-7 (step s d (Call.add named q) .0) ≡ false
+add-shown : (p : ℕ) (j : List ℕ) (s : Setup) (d : Desk) (named : Option ℕ) (q : Request) → Unique s d → eqb (q .priority) p ≡ true → is-barred (step s d (Call.add named q) .0) ≡ false
     → own-step s (view p j d) (Call.add none q) ≡ (
-      answer-by (key (noted p (Call.add named q) (step s d (Call.add named q) .0) j)) (step s d (Call.add named q) .0),
-      view p (noted p (Call.add named q) (step s d (Call.add named q) .0) j) (step s d (Call.add named q) .1),
+      answer-by (key (got-after p (Call.add named q) (step s d (Call.add named q) .0) j)) (step s d (Call.add named q) .0),
+      view p (got-after p (Call.add named q) (step s d (Call.add named q) .0) j) (step s d (Call.add named q) .1),
     )
 unfolding step
 add-shown p j s d named q u e h = go (add-refusal s d named q) refl h
@@ -518,9 +482,9 @@ add-shown p j s d named q u e h = go (add-refusal s d named q) refl h
     d′ : Desk
     d′ = if given named then d else reserved s d
 
-    go : (x : Option ℕ) → add-refusal s d named q ≡ x → is-5-to-7 (unless x d (add-result s d named q) .0) ≡ false
+    go : (x : Option Refusal) → add-refusal s d named q ≡ x → is-barred (unless x d (add-result s d named q) .0) ≡ false
         → unless (early-refusal s (view p j d) q) (view p j d) (Answer.number (suc (length j)), one-more s q (view p j d))
-        ≡ (answer-by (key (noted p (Call.add named q) (unless x d (add-result s d named q) .0) j)) (unless x d (add-result s d named q) .0), view p (noted p (Call.add named q) (unless x d (add-result s d named q) .0) j) (unless x d (add-result s d named q) .1))
+        ≡ (answer-by (key (got-after p (Call.add named q) (unless x d (add-result s d named q) .0) j)) (unless x d (add-result s d named q) .0), view p (got-after p (Call.add named q) (unless x d (add-result s d named q) .0) j) (unless x d (add-result s d named q) .1))
     go none r l = rw (early-seen p j s d q ∙ sym (add-early s d named q (ap late-no r)) ∙ r) (rw e (
         let same : one-more s q (view p j d) ≡ view p (t ∷ j) (admitted s t q d′) =
         ap (one-more s q) (sym (maybe-reserved-hidden p j s d named))
@@ -620,104 +584,69 @@ fdt-answer : (f : ℕ → ℕ) (b : Bool) (k : Option Packet) → FdtPacket k �
 fdt-answer f b none u = refl
 fdt-answer f b (some k) u = λ i. Answer.fdt-output b (some record { id = k .id; toi = (if sym u i then k .toi else f (k .toi)); symbol = k .symbol })
 
-module _ (s : Setup) (now : ℕ) (again : Bool → Fdt → FdtTurn) (h : (b : Bool) (f : Fdt) → FdtPacket (again b f .packet)) where
-  fdt-send-packet : (b : Bool) (f : Fdt) → FdtPacket (fdt-send s now b again f .packet)
-  unfolding fdt-send
-  fdt-send-packet b f = outer (f .hand)
-    where
-      last : FdtHand → Encoder → Option Symbol → FdtTurn
-      last x e y = maybe (again b (record { state = fdt-done now (f .state); hand = none }))
-          (λ y. record { taken = b; packet = some record { id = some (x .id); toi = 0; symbol = y }; fdt = record { state = f .state; hand = some record { id = x .id; part = x .part; encoder = e } } }) y
-
-      inner : (x : FdtHand) (e : Encoder) (y : Option Symbol) → FdtPacket (last x e y .packet)
-      inner x e none = h b (record { state = fdt-done now (f .state); hand = none })
-      inner x e (some y) = refl
-
-      outer : (x : Option FdtHand) → FdtPacket (maybe (record { taken = b; packet = none; fdt = f }) (λ (x : FdtHand). let r = read (s .window) (x .part) (s .sizes) false (x .encoder) in last x (r .1) (r .0)) x .packet)
-      outer none = tt
-      outer (some x) = inner x (read (s .window) (x .part) (s .sizes) false (x .encoder) .1) (read (s .window) (x .part) (s .sizes) false (x .encoder) .0)
-
-  fdt-attempt-packet : (draft : Option Part) (b : Bool) (f : Fdt) → FdtPacket (fdt-attempt s now draft again b f .packet)
-  unfolding fdt-attempt
-  fdt-attempt-packet draft b f =
-      let n = next-fdt s now (if b then none else draft) (f .state) in
-      let g : Fdt = record { state = n .state; hand = maybe none (λ (i : Instance). some record { id = i .id; part = i .part; encoder = fresh false }) (n .starts) } in
-      elim (given (f .hand)) as (λ t. FdtPacket ((if t then fdt-send s now b again f else fdt-send s now (b || n .taken) again g) .packet))
-      [ true ↦ fdt-send-packet b f | false ↦ fdt-send-packet (b || n .taken) g ]
-
 fdt-run-packet : (s : Setup) (now : ℕ) (draft : Option Part) (f : Fdt) → FdtPacket (fdt-run s now draft f .packet)
-unfolding fdt-run
-fdt-run-packet s now draft f = fdt-attempt-packet s now (fdt-attempt s now draft fdt-idle) (fdt-attempt-packet s now fdt-idle (λ b g. tt) draft) draft false f
+unfolding fdt-sent
+fdt-run-packet s now draft f = fdt-run-goes s now draft (λ b f. Unit {0}) (λ (t : FdtTurn). FdtPacket (t .packet)) (record {
+  rests = λ b f i. tt;
+  sends = λ b f h y i. refl;
+  ends = λ b f h i. tt;
+  asks = λ b f e i. tt;
+}) f tt
 
 -- a call that is not the priority's does not show
-pub hidden : (p : ℕ) (j : List ℕ) (s : Setup) (d : Desk) (c : Call) → Known p j d → about p d c ≡ false → view p (noted p c (step s d c .0) j) (step s d c .1) ≡ view p j d
+pub hidden : (p : ℕ) (j : List ℕ) (s : Setup) (d : Desk) (c : Call) → Known p j d → about p d c ≡ false → view p (got-after p c (step s d c .0) j) (step s d c .1) ≡ view p j d
 unfolding step about numbered moved
-hidden p j s d Call.reserve k e = go (first-of ((7, full d) ∷ []))
+hidden p j s d Call.reserve k e = go (reserve-refusal d)
   where
-    go : (x : Option ℕ) → view p j (unless x d (Answer.number (d .next), reserved s d) .1) ≡ view p j d
+    go : (x : Option Refusal) → view p j (unless x d (Answer.number (d .next), reserved s d) .1) ≡ view p j d
     go none = reserved-hidden p j s d
     go (some n) = refl
-hidden p j s d (Call.release t) k e = go (first-of ((6, not-loose d (some t)) ∷ []))
+hidden p j s d (Call.release t) k e = go (release-refusal d t)
   where
-    go : (x : Option ℕ) → view p j (unless x d (Answer.done, numbered d (d .next) (unloosed t (d .loose))) .1) ≡ view p j d
+    go : (x : Option Refusal) → view p j (unless x d (Answer.done, numbered d (d .next) (unloosed t (d .loose))) .1) ≡ view p j d
     go none = refl
     go (some n) = refl
 hidden p j s d (Call.add named q) k e = go (add-refusal s d named q)
   where
-    go : (x : Option ℕ) → view p (noted p (Call.add named q) (unless x d (add-result s d named q) .0) j) (unless x d (add-result s d named q) .1) ≡ view p j d
+    go : (x : Option Refusal) → view p (got-after p (Call.add named q) (unless x d (add-result s d named q) .0) j) (unless x d (add-result s d named q) .1) ≡ view p j d
     go none = rw e (admitted-hidden p j s (toi-for d named) q (if given named then d else reserved s d) e ∙ maybe-reserved-hidden p j s d named)
     go (some n) = refl
-hidden p j s d (Call.remove t) k e = removed-hidden p j d t k e
-hidden p j s d (Call.trigger t x) k e = λ i. record {
-  complete = d .complete;
-  next = suc (length j);
-  loose = [];
-  fdt = d .fdt;
-  sessions = map (see p (key j)) (d .sessions);
-  queue = prompted-hidden p j d t x e i;
-}
-hidden p j s d (Call.listed t) k e = refl
-hidden p j s d (Call.transfers t) k e = refl
+hidden p j s d (Call.touch t x) k e = touched-hidden p j d t x k e
+hidden p j s d (Call.ask q) k e = refl
 hidden p j s d Call.complete k e = absurd (true≢false e)
 hidden p j s d (Call.publish now c) k e = absurd (true≢false e)
 hidden p j s d (Call.run-fdt now draft) k e = absurd (true≢false e)
-hidden p j s d (Call.run-file now i) k e = go (at (d .sessions) i) refl e
+hidden p j s d (Call.run-file i now) k e = go (at (d .sessions) i) refl e
   where
-    go : (x : Option Session) → at (d .sessions) i ≡ x → maybe false (λ (x : Session). eqb (x .priority) p) x ≡ false → view p j (maybe (Answer.refused 8, d) (ran s now i d) x .1) ≡ view p j d
+    go : (x : Option Session) → at (d .sessions) i ≡ x → maybe false (λ (x : Session). eqb (x .priority) p) x ≡ false → view p j (maybe (Answer.refused Because.NoSession, d) (ran s now i d) x .1) ≡ view p j d
     go none a e = refl
     go (some x) a e = ran-hidden p j s now i d x a k e
 
+-- a question about the priority is answered as on its own desk
+answer-seen : (p : ℕ) (j : List ℕ) (s : Setup) (d : Desk) (q : Question) → Unique s d → Known p j d → about-question p d q ≡ true
+    → answer-to (view p j d) (question-by (key j) q) ≡ answer-by (key j) (answer-to d q)
+answer-seen p j s d (Question.listed t) u k e = ap Answer.truth (given-seen p j s d t u k e)
+answer-seen p j s d (Question.transfers t) u k e = ap Answer.transferred (total-seen p j s d t u k e)
+
 -- one of the priority's is answered as on its own desk
 pub shown : (p : ℕ) (j : List ℕ) (s : Setup) (d : Desk) (c : Call) → Unique s d → Known p j d → about p d c ≡ true → turned-away p c (step s d c .0) ≡ false
-    → own-step s (view p j d) (call-by (key j) c) ≡ (answer-by (key (noted p c (step s d c .0) j)) (step s d c .0), view p (noted p c (step s d c .0) j) (step s d c .1))
+    → own-step s (view p j d) (call-by (key j) c) ≡ (answer-by (key (got-after p c (step s d c .0) j)) (step s d c .0), view p (got-after p c (step s d c .0) j) (step s d c .1))
 unfolding step about numbered moved with-fdt fdt-ran
 shown p j s d Call.reserve u k e h = absurd (false≢true e)
 shown p j s d (Call.release t) u k e h = absurd (false≢true e)
 shown p j s d (Call.add named q) u k e h = add-shown p j s d named q u e (rw e at h)
-shown p j s d (Call.remove t) u k e h = λ i. (Answer.truth (given-seen p j s d t u k e i), removed-seen p j d t k (owns-noted p j d t k e) i)
-shown p j s d (Call.trigger t x) u k e h = λ i. (
-  Answer.truth (given-seen p j s d t u k e i),
-  record {
-    complete = d .complete;
-    next = suc (length j);
-    loose = [];
-    fdt = d .fdt;
-    sessions = map (see p (key j)) (d .sessions);
-    queue = prompted-seen p j (d .queue) t x (k .waiting) (owns-noted p j d t k e) i;
-  },
-)
-shown p j s d (Call.listed t) u k e h = λ i. (Answer.truth (given-seen p j s d t u k e i), view p j d)
-shown p j s d (Call.transfers t) u k e h = λ i. (Answer.transferred (total-seen p j s d t u k e i), view p j d)
+shown p j s d (Call.touch t x) u k e h = λ i. (Answer.truth (given-seen p j s d t u k e i), touched-seen p j d t x k (owns-noted p j d t k e) i)
+shown p j s d (Call.ask q) u k e h = λ i. (answer-seen p j s d q u k e i, view p j d)
 shown p j s d Call.complete u k e h = refl
 shown p j s d (Call.publish now c) u k e h = go (publish-refusal s (d .fdt) c)
   where
-    go : (x : Option ℕ) → unless x (view p j d) (Answer.done, all-published (with-fdt (view p j d) (fdt-published now c (d .fdt))))
+    go : (x : Option Refusal) → unless x (view p j d) (Answer.done, all-published (with-fdt (view p j d) (fdt-published now c (d .fdt))))
         ≡ (answer-by (key j) (unless x d (Answer.done, all-published (with-fdt d (fdt-published now c (d .fdt)))) .0), view p j (unless x d (Answer.done, all-published (with-fdt d (fdt-published now c (d .fdt)))) .1))
     go none = λ i. (Answer.done, published-seen p j (with-fdt d (fdt-published now c (d .fdt))) (record { waiting = k .waiting; serving = k .serving }) i)
     go (some n) = refl
 shown p j s d (Call.run-fdt now draft) u k e h = go (draft-refusal s (d .fdt) draft) (fdt-run s now (draft-of draft) (d .fdt)) (fdt-run-packet s now (draft-of draft) (d .fdt))
   where
-    go : (x : Option ℕ) (r : FdtTurn) → FdtPacket (r .packet)
+    go : (x : Option Refusal) (r : FdtTurn) → FdtPacket (r .packet)
         → unless x (view p j d) (Answer.fdt-output (r .taken) (r .packet), if r .taken then all-published (with-fdt (view p j d) (r .fdt)) else with-fdt (view p j d) (r .fdt))
         ≡ (
           answer-by (key j) (unless x d (Answer.fdt-output (r .taken) (r .packet), if r .taken then all-published (with-fdt d (r .fdt)) else with-fdt d (r .fdt)) .0),
@@ -725,11 +654,11 @@ shown p j s d (Call.run-fdt now draft) u k e h = go (draft-refusal s (d .fdt) dr
         )
     go none r v = λ i. (fdt-answer (key j) (r .taken) (r .packet) v i, fdt-seen p j d r k i)
     go (some n) r v = refl
-shown p j s d (Call.run-file now i) u k e h = rw (at-map (see p (key j)) (d .sessions) i) (go (at (d .sessions) i) refl e)
+shown p j s d (Call.run-file i now) u k e h = rw (at-map (see p (key j)) (d .sessions) i) (go (at (d .sessions) i) refl e)
   where
     go : (x : Option Session) → at (d .sessions) i ≡ x → maybe false (λ (x : Session). eqb (x .priority) p) x ≡ true
-        → maybe (Answer.refused 8, view p j d) (ran s now i (view p j d)) (over (see p (key j)) x)
-        ≡ (answer-by (key j) (maybe (Answer.refused 8, d) (ran s now i d) x .0), view p j (maybe (Answer.refused 8, d) (ran s now i d) x .1))
+        → maybe (Answer.refused Because.NoSession, view p j d) (ran s now i (view p j d)) (over (see p (key j)) x)
+        ≡ (answer-by (key j) (maybe (Answer.refused Because.NoSession, d) (ran s now i d) x .0), view p j (maybe (Answer.refused Because.NoSession, d) (ran s now i d) x .1))
     go none a e = absurd (false≢true e)
     go (some x) a e = ran-shown p j s now i d x a k e
 
@@ -740,13 +669,13 @@ unfolding answers calls smooth
 answered-alone s p w j d [] u k h = refl
 answered-alone s p w j d (c ∷ l) u k h =
     (elim (about p d c) as (λ b. about p d c ≡ b
-    → (if b then answer-by (key (noted p c (step s d c .0) j)) (step s d c .0) ∷ answers s p (noted p c (step s d c .0) j) (step s d c .1) l else answers s p (noted p c (step s d c .0) j) (step s d c .1) l)
-    ≡ own-run s (view p j d) (if b then call-by (key j) c ∷ calls s p (noted p c (step s d c .0) j) (step s d c .1) l else calls s p (noted p c (step s d c .0) j) (step s d c .1) l)) [
+    → (if b then answer-by (key (got-after p c (step s d c .0) j)) (step s d c .0) ∷ answers s p (got-after p c (step s d c .0) j) (step s d c .1) l else answers s p (got-after p c (step s d c .0) j) (step s d c .1) l)
+    ≡ own-run s (view p j d) (if b then call-by (key j) c ∷ calls s p (got-after p c (step s d c .0) j) (step s d c .1) l else calls s p (got-after p c (step s d c .0) j) (step s d c .1) l)) [
       | true ↦ λ e. (let q = shown p j s d c u k e (not-true (turned-away p c (step s d c .0)) (and-left (not (turned-away p c (step s d c .0))) (smooth s p (step s d c .1) l) h)) in
-          (let rest = answered-alone s p w (noted p c (step s d c .0) j) (step s d c .1) l (unique-step s d c w u) (known-step p j s d c k) (and-right (not (turned-away p c (step s d c .0))) (smooth s p (step s d c .1) l) h) in
-          λ i. sym q i .0 ∷ (rest ∙ ap (λ (r : Result). own-run s (r .1) (calls s p (noted p c (step s d c .0) j) (step s d c .1) l)) (sym q)) i))
-      | false ↦ λ e. answered-alone s p w (noted p c (step s d c .0) j) (step s d c .1) l (unique-step s d c w u) (known-step p j s d c k) (and-right (not (turned-away p c (step s d c .0))) (smooth s p (step s d c .1) l) h)
-          ∙ ap (λ v. own-run s v (calls s p (noted p c (step s d c .0) j) (step s d c .1) l)) (hidden p j s d c k e)
+          (let rest = answered-alone s p w (got-after p c (step s d c .0) j) (step s d c .1) l (unique-step s d c w u) (known-step p j s d c k) (and-right (not (turned-away p c (step s d c .0))) (smooth s p (step s d c .1) l) h) in
+          λ i. sym q i .0 ∷ (rest ∙ ap (λ (r : Result). own-run s (r .1) (calls s p (got-after p c (step s d c .0) j) (step s d c .1) l)) (sym q)) i))
+      | false ↦ λ e. answered-alone s p w (got-after p c (step s d c .0) j) (step s d c .1) l (unique-step s d c w u) (known-step p j s d c k) (and-right (not (turned-away p c (step s d c .0))) (smooth s p (step s d c .1) l) h)
+          ∙ ap (λ v. own-run s v (calls s p (got-after p c (step s d c .0) j) (step s d c .1) l)) (hidden p j s d c k e)
     ]) refl
 
 -- two runs with the same calls about the priority are answered alike
@@ -757,60 +686,53 @@ alike s p w l m hl hm e = alone l hl ∙ ap (own-run s (view p [] (opening s))) 
     alone : (l : List Call) → smooth s p (opening s) l ≡ true → answers s p [] (opening s) l ≡ own-run s (view p [] (opening s)) (calls s p [] (opening s) l)
     alone l h = answered-alone s p w [] (opening s) l (unique-opening s w) (known-opening p s) h
 
-key-above : (j : List ℕ) (t : ℕ) → has t j ≡ true → 1 ≤ key j t
-key-above [] t e = absurd (false≢true e)
-key-above (u ∷ j) t e = (elim (eqb u t) as (λ b. (b || has t j) ≡ true → 1 ≤ (if b then suc (length j) else key j t))
-    [ true ↦ λ e. omega arith | false ↦ λ e. key-above j t e ]) e
+packet-own : (p : ℕ) (j : List ℕ) (r : ℕ) (k : Option Packet) → eqb r p ≡ true → PacketNoted p j r k → PacketOf j k
+packet-own p j r none e u = tt
+packet-own p j r (some k) e u = λ z. u e
 
-packet-named : (p : ℕ) (j : List ℕ) (r : ℕ) (k : Option Packet) → eqb r p ≡ true → PacketNoted p j r k → PacketNamed (perhaps-by (key j) k)
-packet-named p j r none e u = tt
-packet-named p j r (some k) e u = λ z. rw z (key-above j (k .toi) (u e))
+fdt-own : (j : List ℕ) (k : Option Packet) → FdtPacket k → PacketOf j k
+fdt-own j none u = tt
+fdt-own j (some k) u = λ z. absurd (true≢false (sym u ∙ z))
 
-fdt-named : (f : ℕ → ℕ) (k : Option Packet) → FdtPacket k → PacketNamed (perhaps-by f k)
-fdt-named f none u = tt
-fdt-named f (some k) u = λ z. absurd (true≢false (sym u ∙ z))
+-- a question names no packet
+answer-own : (j : List ℕ) (d : Desk) (q : Question) → NumberOf j (answer-to d q)
+answer-own j d (Question.listed t) = tt
+answer-own j d (Question.transfers t) = tt
 
 -- a call of the priority
-named-step : (p : ℕ) (j : List ℕ) (s : Setup) (d : Desk) (c : Call) → Known p j d → about p d c ≡ true → Named (answer-by (key (noted p c (step s d c .0) j)) (step s d c .0))
+number-step : (p : ℕ) (j : List ℕ) (s : Setup) (d : Desk) (c : Call) → Known p j d → about p d c ≡ true → NumberOf (got-after p c (step s d c .0) j) (step s d c .0)
 unfolding step about ran fdt-ran
-named-step p j s d Call.reserve k e = absurd (false≢true e)
-named-step p j s d (Call.release t) k e = absurd (false≢true e)
-named-step p j s d (Call.add named q) k e = go (add-refusal s d named q)
+number-step p j s d Call.reserve k e = absurd (false≢true e)
+number-step p j s d (Call.release t) k e = absurd (false≢true e)
+number-step p j s d (Call.add named q) k e = go (add-refusal s d named q)
   where
-    go : (x : Option ℕ) → Named (answer-by (key (noted p (Call.add named q) (unless x d (add-result s d named q) .0) j)) (unless x d (add-result s d named q) .0))
+    go : (x : Option Refusal) → NumberOf (got-after p (Call.add named q) (unless x d (add-result s d named q) .0) j) (unless x d (add-result s d named q) .0)
     go none = tt
     go (some n) = tt
-named-step p j s d (Call.remove t) k e = tt
-named-step p j s d (Call.trigger t x) k e = tt
-named-step p j s d (Call.listed t) k e = tt
-named-step p j s d (Call.transfers t) k e = tt
-named-step p j s d Call.complete k e = tt
-named-step p j s d (Call.publish now c) k e = go (publish-refusal s (d .fdt) c)
+number-step p j s d (Call.touch t x) k e = tt
+number-step p j s d (Call.ask q) k e = answer-own j d q
+number-step p j s d Call.complete k e = tt
+number-step p j s d (Call.publish now c) k e = go (publish-refusal s (d .fdt) c)
   where
-    go : (x : Option ℕ) → Named (answer-by (key j) (unless x d (Answer.done, all-published (with-fdt d (fdt-published now c (d .fdt)))) .0))
+    go : (x : Option Refusal) → NumberOf j (unless x d (Answer.done, all-published (with-fdt d (fdt-published now c (d .fdt)))) .0)
     go none = tt
     go (some n) = tt
-named-step p j s d (Call.run-fdt now draft) k e = go (draft-refusal s (d .fdt) draft)
+number-step p j s d (Call.run-fdt now draft) k e = go (draft-refusal s (d .fdt) draft)
   where
     r : FdtTurn
     r = fdt-run s now (draft-of draft) (d .fdt)
 
-    go : (x : Option ℕ) → Named (answer-by (key j) (unless x d (Answer.fdt-output (r .taken) (r .packet), if r .taken then all-published (with-fdt d (r .fdt)) else with-fdt d (r .fdt)) .0))
-    go none = fdt-named (key j) (r .packet) (fdt-run-packet s now (draft-of draft) (d .fdt))
+    go : (x : Option Refusal) → NumberOf j (unless x d (Answer.fdt-output (r .taken) (r .packet), if r .taken then all-published (with-fdt d (r .fdt)) else with-fdt d (r .fdt)) .0)
+    go none = fdt-own j (r .packet) (fdt-run-packet s now (draft-of draft) (d .fdt))
     go (some n) = tt
-named-step p j s d (Call.run-file now i) k e = go (at (d .sessions) i) refl e
+number-step p j s d (Call.run-file i now) k e = go (at (d .sessions) i) refl e
   where
-    go : (x : Option Session) → at (d .sessions) i ≡ x → maybe false (λ (x : Session). eqb (x .priority) p) x ≡ true → Named (answer-by (key j) (maybe (Answer.refused 8, d) (ran s now i d) x .0))
+    go : (x : Option Session) → at (d .sessions) i ≡ x → maybe false (λ (x : Session). eqb (x .priority) p) x ≡ true → NumberOf j (maybe (Answer.refused Because.NoSession, d) (ran s now i d) x .0)
     go none a e = tt
-    go (some x) a e = packet-named p j (x .priority) (file-run s (x .priority) now (fdt-queued d) (d .queue) (x .hand) .packet) e
+    go (some x) a e = packet-own p j (x .priority) (file-run s (x .priority) now (fdt-queued d) (d .queue) (x .hand) .packet) e
         (file-run-known p j (x .priority) s now (fdt-queued d) (d .queue) (x .hand) (k .waiting) (each-at (Fits p j) (d .sessions) i x a (k .serving)) .2)
 
 -- object numbers in the answers are those that the priority's admissions got
-pub answers-named : (s : Setup) (p : ℕ) (j : List ℕ) (d : Desk) (l : List Call) → Known p j d → Each Named (answers s p j d l)
-unfolding answers
-answers-named s p j d [] k = tt
-answers-named s p j d (c ∷ l) k = (elim (about p d c) as (λ b. about p d c ≡ b
-    → Each Named (if b then answer-by (key (noted p c (step s d c .0) j)) (step s d c .0) ∷ answers s p (noted p c (step s d c .0) j) (step s d c .1) l else answers s p (noted p c (step s d c .0) j) (step s d c .1) l)) [
-      | true ↦ λ e. (named-step p j s d c k e, answers-named s p (noted p c (step s d c .0) j) (step s d c .1) l (known-step p j s d c k))
-      | false ↦ λ e. answers-named s p (noted p c (step s d c .0) j) (step s d c .1) l (known-step p j s d c k)
-    ]) refl
+pub own-numbers : (s : Setup) (p : ℕ) (j : List ℕ) (d : Desk) (l : List Call) → Known p j d → OwnNumbers s p j d l
+own-numbers s p j d [] k = tt
+own-numbers s p j d (c ∷ l) k = (λ e. number-step p j s d c k e, own-numbers s p (got-after p c (step s d c .0) j) (step s d c .1) l (known-step p j s d c k))

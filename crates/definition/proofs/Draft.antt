@@ -15,7 +15,7 @@ use Rattle.lifecycle.specs.Lifecycle.{may-start, started, finished}
 use Rattle.lifecycle.specs.Setup.{Setup}
 use Rattle.lifecycle.specs.Fdt.{FdtState, Instance, Next, fdt-plan, id-after, queued, runs-out, needs-new, takes-draft, republished, front-taken, with-current, start-current, next-fdt, fdt-done}
 use Rattle.definition.specs.Encoder.{Symbol, fresh, read}
-use Rattle.definition.specs.FdtSession.{Fdt, FdtTurn, FdtHand, Packet, fdt-send, fdt-attempt, fdt-idle, fdt-run}
+use Rattle.definition.specs.FdtSession.{Fdt, FdtTurn, FdtHand, Packet, fdt-run, FdtRound, fdt-sent, fdt-begun, fdt-in-hand-or-next, fdt-round-with, fdt-round, last-fdt-round}
 use Rattle.definition.specs.Promises.{packet-id, DraftTold}
 use Rattle.definition.proofs.Rounds.{first-read}
 
@@ -116,10 +116,14 @@ record Told (draft : Option Part) (n : ℕ) (r : FdtTurn) : Type 0 where
   no-draft : given draft ≡ false → r .taken ≡ false
 
 module _ (s : Setup) (now : ℕ) (w : 1 ≤ s .window) (k : 1 ≤ s .sizes .e) (g : 1 ≤ s .sizes .b) (draft : Option Part) where
-  -- with nothing in hand
-  anew : (again : Bool → Fdt → FdtTurn) (f : Fdt) → f .hand ≡ none → Told draft (f .state .next-id) (fdt-attempt s now draft again false f)
-  unfolding fdt-attempt fdt-send
-  anew again f e = rw e (go (n .starts) refl)
+  abbrev RoundTold : ℕ → FdtRound → Type 0
+  RoundTold m (FdtRound.over t) = Told draft m t
+  RoundTold m (FdtRound.again taken f) = ⊥
+
+  -- with nothing in hand a round is the last
+  anew : (f : Fdt) → f .hand ≡ none → RoundTold (f .state .next-id) (fdt-round s now draft false f)
+  unfolding fdt-round fdt-in-hand-or-next fdt-round-with fdt-sent
+  anew f e = rw e (go (n .starts) refl)
     where
       n : Next
       n = next-fdt s now draft (f .state)
@@ -127,21 +131,15 @@ module _ (s : Setup) (now : ℕ) (w : 1 ≤ s .window) (k : 1 ≤ s .sizes .e) (
       a : Asked draft (f .state .next-id) n
       a = asked s now draft (f .state)
 
-      begins : Option Instance → Option FdtHand
-      begins = maybe none (λ (i : Instance). some record { id = i .id; part = i .part; encoder = fresh false })
-
-      go : (x : Option Instance) → n .starts ≡ x → Told draft (f .state .next-id) (fdt-send s now (n .taken) again (record { state = n .state; hand = begins x }))
+      go : (x : Option Instance) → n .starts ≡ x → RoundTold (f .state .next-id) (fdt-round-with s now (n .taken) (n .state) (fdt-begun x))
       go none h = record { sent = λ t. absurd (none≢some (sym (ap (over (λ (i : Instance). i .id)) h) ∙ a .starts t)); moves = a .moves; no-draft = a .no-draft }
       go (some i) b = one (read (s .window) (i .part) (s .sizes) false (fresh false) .0) (first-read (s .window) (i .part) (s .sizes) false w k g)
         where
-          out : Symbol → FdtTurn
-          out y = record {
-            taken = n .taken;
-            packet = some record { id = some (i .id); toi = 0; symbol = y };
-            fdt = record { state = n .state; hand = some record { id = i .id; part = i .part; encoder = read (s .window) (i .part) (s .sizes) false (fresh false) .1 } };
-          }
+          begun : FdtHand
+          begun = record { id = i .id; part = i .part; encoder = fresh false }
 
-          one : (y : Option Symbol) → given y ≡ true → Told draft (f .state .next-id) (maybe (again (n .taken) (record { state = fdt-done now (n .state); hand = none })) out y)
+          one : (y : Option Symbol) → given y ≡ true
+              → RoundTold (f .state .next-id) (elim y [ none ↦ FdtRound.again (n .taken) (record { state = fdt-done now (n .state); hand = none }) | some y ↦ FdtRound.over (fdt-sent (n .taken) (n .state) begun (read (s .window) (i .part) (s .sizes) false (fresh false) .1) y) ])
           one none h = absurd (false≢true h)
           one (some y) h = record { sent = λ t. sym (ap (over (λ (i : Instance). i .id)) b) ∙ a .starts t; moves = a .moves; no-draft = a .no-draft }
 
@@ -153,30 +151,31 @@ module _ (s : Setup) (now : ℕ) (w : 1 ≤ s .window) (k : 1 ≤ s .sizes .e) (
       go none = refl
       go (some i) = refl
 
+  last-told : (m : ℕ) (r : FdtRound) → RoundTold m r → Told draft m (last-fdt-round r)
+  last-told m (FdtRound.over t) u = u
+  last-told m (FdtRound.again taken f) u = absurd u
+
   told : (f : Fdt) → Told draft (f .state .next-id) (fdt-run s now draft f)
-  unfolding fdt-run fdt-attempt fdt-send
+  unfolding fdt-run fdt-round fdt-in-hand-or-next fdt-round-with fdt-sent
   told f = go (f .hand) refl
     where
-      second : Bool → Fdt → FdtTurn
-      second = fdt-attempt s now draft fdt-idle
+      second : FdtRound → FdtTurn
+      second r = elim r [ FdtRound.over t ↦ t | FdtRound.again taken f′ ↦ last-fdt-round (fdt-round s now draft taken f′) ]
 
-      go : (x : Option FdtHand) → f .hand ≡ x → Told draft (f .state .next-id) (fdt-attempt s now draft second false f)
-      go none e = anew second f e
-      go (some x) e = rw e (one x (read (s .window) (x .part) (s .sizes) false (x .encoder) .0))
+      done : Fdt
+      done = record { state = fdt-done now (f .state); hand = none }
+
+      first : (m : ℕ) (r : FdtRound) → RoundTold m r → Told draft m (second r)
+      first m (FdtRound.over t) u = u
+      first m (FdtRound.again taken f) u = absurd u
+
+      go : (x : Option FdtHand) → f .hand ≡ x → Told draft (f .state .next-id) (second (fdt-round s now draft false f))
+      go none e = first (f .state .next-id) (fdt-round s now draft false f) (anew f e)
+      go (some x) e = rw e (one (read (s .window) (x .part) (s .sizes) false (x .encoder) .0))
         where
-          done : Fdt
-          done = record { state = fdt-done now (f .state); hand = none }
-
-          out : FdtHand → Symbol → FdtTurn
-          out x y = record {
-            taken = false;
-            packet = some record { id = some (x .id); toi = 0; symbol = y };
-            fdt = record { state = f .state; hand = some record { id = x .id; part = x .part; encoder = read (s .window) (x .part) (s .sizes) false (x .encoder) .1 } };
-          }
-
-          one : (x : FdtHand) (y : Option Symbol) → Told draft (f .state .next-id) (maybe (second false done) (out x) y)
-          one x none = subst (λ m. Told draft m (second false done)) (done-keeps (f .state)) (anew fdt-idle done refl)
-          one x (some y) = record { sent = λ t. absurd (false≢true t); moves = refl; no-draft = λ e. refl }
+          one : (y : Option Symbol) → Told draft (f .state .next-id) (second (elim y [ none ↦ FdtRound.again false done | some y ↦ FdtRound.over (fdt-sent false (f .state) x (read (s .window) (x .part) (s .sizes) false (x .encoder) .1) y) ]))
+          one none = subst (λ m. Told draft m (last-fdt-round (fdt-round s now draft false done))) (done-keeps (f .state)) (last-told (done .state .next-id) (fdt-round s now draft false done) (anew done refl))
+          one (some y) = record { sent = λ t. absurd (false≢true t); moves = refl; no-draft = λ e. refl }
 
 -- what is promised of the draft
 pub drafted : DraftTold

@@ -1,29 +1,26 @@
 -- What holds of each object as it is admitted, and does not read its life, holds of every object at every moment. Used for sound E and B, and so: a run's rounds are enough.
-use mathlib.Core.Path.{_≡_, refl}
+use mathlib.Core.Path.{_≡_, refl, subst, sym}
 use mathlib.Core.Bool.{Bool, true, false, not, _&&_}
 use mathlib.Core.Option.{Option, none, some}
 use mathlib.Core.List.{List, [], _∷_, _++_, map}
 use Prim.Native.Nat.{ℕ, _≤_}
-use lib.Dec.{eqb, ltb}
-use borrow.Author.Tests.{ltb-false, not-false}
+use lib.Dec.{eqb}
 use lib.ListN.{length}
-use Rattle.sizes.specs.Words.{if_then_else_, maybe, given, keep, at, find, drop-first, first-of}
-use Rattle.sizes.specs.Limits.{most-blocks}
-use Rattle.sizes.specs.Partition.{blocks-of}
-use Rattle.sizes.specs.declared.partition.Sizes.{Sizes}
-use Rattle.lifecycle.proofs.SetupLaws.{sizes-told}
-use Rattle.definition.specs.Encoder.{Symbol, read}
-use Rattle.lifecycle.specs.Lifecycle.{Life, announced, triggered, too-early, expired, finished, started}
-use Rattle.lifecycle.specs.Setup.{Setup, sound-sizes, bad-blocks}
+use Rattle.sizes.specs.Words.{if_then_else_, maybe, given, keep, at}
+use Rattle.sizes.specs.declared.refusal.Refusal.the-variants as Because
+use Rattle.sizes.specs.declared.refusal.Refusal.{Refusal}
+use Rattle.lifecycle.proofs.SetupLaws.{blocks-told}
+use Rattle.lifecycle.specs.Lifecycle.{Life, announced, expired, finished, started}
+use Rattle.lifecycle.specs.Setup.{Setup}
 use Rattle.definition.specs.FdtSession.{Fdt, FdtTurn, fdt-published, fdt-run}
-use Rattle.definition.specs.Session.{Object, Hand, Session, living, startable, begin, put-back, forced, Turn, idle, sent, serve, go-on, take-on, file-run}
-use Rattle.definition.specs.Desk.{Desk, Request, Call, Answer, opening, in-hands, objects, is, moved, numbered, with-fdt, in-hand, marked, marked-hand, all-published, unlisted, removed, prompted, reserved, toi-for, own-sizes, made, admitted, not-loose, full, add-refusal, publish-refusal, draft-refusal, draft-of, unless, ran, step, run, unloosed, fdt-queued, fdt-ran}
+use Rattle.definition.specs.Session.{Object, Hand, Session, living, startable, begin, put-back, Turn, sent, file-run}
+use Rattle.definition.specs.Desk.{Desk, Request, Call, Answer, opening, in-hands, objects, moved, numbered, with-fdt, in-hand, marked, marked-hand, all-published, reserved, toi-for, own-sizes, made, admitted, reserve-refusal, release-refusal, add-refusal, publish-refusal, draft-refusal, draft-of, unless, ran, step, run, unloosed, fdt-queued, fdt-ran, Touch, touched-waiting, touched-hand, touched}
 use Rattle.sizes.specs.Words.{Each}
-use Rattle.sizes.proofs.Tests.{or-left, or-right}
-use Rattle.sizes.proofs.Lists.{each-append, each-keep, each-drop-first, each-map, each-set, each-find, each-at, each-left, each-right}
-use Rattle.definition.specs.TotalPromises.{InRange}
+use Rattle.sizes.proofs.Lists.{each-append, each-drop-first, each-map, each-set, each-find, each-at, each-left, each-right}
 use Rattle.definition.proofs.Weights.{none-yet}
 use Rattle.definition.proofs.Numbers.{blocks-fit}
+use Rattle.definition.proofs.Touches.{touched-kept, touched-hand-kept, each-touched}
+use Rattle.definition.proofs.Runs.{run-goes}
 
 -- what a session holds
 abbrev pub InHand : (Object → Type 0) → Option Hand → Type 0
@@ -45,36 +42,14 @@ module _ (P : Object → Type 0) (stable : (x : Life) (o : Object) → P o → P
       elim (h .listed && not (expired (o .plan) (o .life))) as (λ t. Each P (if t then q ++ (o ∷ []) else q))
       [ true ↦ each-append P q (o ∷ []) u (stable (finished now (h .object .life)) (h .object) v, tt) | false ↦ u ]
 
-  module _ (s : Setup) (now : ℕ) (again : List Object → Turn) (h-again : (q : List Object) → Each P q → InTurn (again q)) where
-    serve-all : (q : List Object) (h : Hand) → Each P q → P (h .object) → InTurn (serve s now again q h)
-    unfolding serve sent
-    serve-all q h u v = elim (too-early now (h .pace))
-        as (λ t. InTurn (if t then idle q (some h) else maybe (again (put-back now h q)) (sent q h (read (s .window) (h .object .part) (h .object .sizes) (forced h) (h .encoder) .1)) (read (s .window) (h .object .part) (h .object .sizes) (forced h) (h .encoder) .0))) [
-          | true ↦ (u, v)
-          | false ↦ elim (read (s .window) (h .object .part) (h .object .sizes) (forced h) (h .encoder) .0)
-              as (λ (y : Option Symbol). InTurn (maybe (again (put-back now h q)) (sent q h (read (s .window) (h .object .part) (h .object .sizes) (forced h) (h .encoder) .1)) y))
-              [ none ↦ h-again (put-back now h q) (back-all now h q u v) | some y ↦ (u, v) ]
-        ]
-
-    go-on-all : (b : Bool) (q : List Object) (h : Hand) → Each P q → P (h .object) → InTurn (go-on s now b again q h)
-    unfolding go-on
-    go-on-all true q h u v = (u, v)
-    go-on-all false q h u v = serve-all q h u v
-
-    take-on-all : (r : ℕ) (b : Bool) (q : List Object) → Each P q → InTurn (take-on s r now b again q)
-    unfolding take-on begin
-    take-on-all r b q u = go (find (startable r now) q) refl
-      where
-        go : (x : Option Object) → find (startable r now) q ≡ x → InTurn (maybe (idle q none) (λ o. go-on s now b again (drop-first (startable r now) q) (begin now o)) x)
-        go none e = (u, tt)
-        go (some o) e = go-on-all b (drop-first (startable r now) q) (begin now o) (each-drop-first P (startable r now) q u)
-            (stable (started (o .plan) now (o .life)) o (each-find P (startable r now) q o e u .0))
-
   file-run-all : (s : Setup) (r now : ℕ) (b : Bool) (q : List Object) (h : Option Hand) → Each P q → InHand P h → InTurn (file-run s r now b q h)
-  unfolding file-run
-  file-run-all s r now b q none u v = take-on-all s now (λ q′. idle q′ none) (λ q′ w. (w, tt)) r b q u
-  file-run-all s r now b q (some h) u v = go-on-all s now (take-on s r now b (λ q′. idle q′ none))
-      (λ q′ w. take-on-all s now (λ q″. idle q″ none) (λ q″ z. (z, tt)) r b q′ w) b q h u v
+  unfolding sent begin
+  file-run-all s r now b q h u v = run-goes s r now b (λ q h. Each P q × InHand P h) InTurn (record {
+    rests = λ q h i. i;
+    sends = λ q h y i. i;
+    ends = λ q h i. (back-all now h q (i .0) (i .1), tt);
+    takes = λ q o e i. (each-drop-first P (startable r now) q (i .0), stable (started (o .plan) now (o .life)) o (each-find P (startable r now) q o e (i .0) .0));
+  }) q h (u, v)
 
   in-hand-all : (g : Hand → Hand) → ((h : Hand) → P (h .object) → P (g h .object)) → (x : Session) → InHand P (x .hand) → InHand P (in-hand g x .hand)
   unfolding in-hand
@@ -111,56 +86,49 @@ module _ (P : Object → Type 0) (stable : (x : Life) (o : Object) → P o → P
   unfolding admitted unloosed
   admitted-all s t q d v u = record { waiting = each-append P (d .queue) (made s t q ∷ []) (u .waiting) (v, tt); serving = u .serving }
 
-  unlisted-all : (t : ℕ) (h : Hand) → P (h .object) → P (unlisted t h .object)
-  unfolding unlisted
-  unlisted-all t h v = elim (is t (h .object)) as (λ b. P ((if b then record { object = h .object; listed = false; encoder = h .encoder; pace = h .pace } else h) .object)) [ true ↦ v | false ↦ v ]
-
-  prompted-all : (t : ℕ) (f : Option ℕ) (o : Object) → P o → P (prompted t f o)
-  unfolding prompted
-  prompted-all t f o v = elim (is t o) as (λ b. P (if b then living (triggered f (o .life)) o else o)) [ true ↦ stable (triggered f (o .life)) o v | false ↦ v ]
+  touched-all : (t : ℕ) (x : Touch) (h : Hand) → P (h .object) → P (touched-hand t x h .object)
+  touched-all t x h v = let k = touched-hand-kept t x h in subst P (sym (k .object)) (stable (k .life) (h .object) v)
 
   -- every call keeps it, if what an add admits has it
   pub everywhere-step : (s : Setup) (d : Desk) (c : Call)
       → ((named : Option ℕ) (q : Request) → c ≡ Call.add named q → add-refusal s d named q ≡ none → P (made s (toi-for d named) q))
       → Everywhere P d → Everywhere P (step s d c .1)
-  unfolding step numbered moved removed ran unloosed fdt-ran fdt-queued
-  everywhere-step s d Call.reserve k u = go (first-of ((7, full d) ∷ []))
+  unfolding step numbered moved touched ran unloosed fdt-ran fdt-queued
+  everywhere-step s d Call.reserve k u = go (reserve-refusal d)
     where
-      go : (x : Option ℕ) → Everywhere P (unless x d (Answer.number (d .next), reserved s d) .1)
+      go : (x : Option Refusal) → Everywhere P (unless x d (Answer.number (d .next), reserved s d) .1)
       go none = reserved-all s d u
       go (some n) = u
-  everywhere-step s d (Call.release t) k u = go (first-of ((6, not-loose d (some t)) ∷ []))
+  everywhere-step s d (Call.release t) k u = go (release-refusal d t)
     where
-      go : (x : Option ℕ) → Everywhere P (unless x d (Answer.done, numbered d (d .next) (keep (λ v. not (eqb v t)) (d .loose))) .1)
+      go : (x : Option Refusal) → Everywhere P (unless x d (Answer.done, numbered d (d .next) (keep (λ v. not (eqb v t)) (d .loose))) .1)
       go none = record { waiting = u .waiting; serving = u .serving }
       go (some n) = u
   everywhere-step s d (Call.add named q) k u = go (add-refusal s d named q) refl
     where
-      go : (x : Option ℕ) → add-refusal s d named q ≡ x → Everywhere P (unless x d (Answer.number (toi-for d named), admitted s (toi-for d named) q (if given named then d else reserved s d)) .1)
+      go : (x : Option Refusal) → add-refusal s d named q ≡ x → Everywhere P (unless x d (Answer.number (toi-for d named), admitted s (toi-for d named) q (if given named then d else reserved s d)) .1)
       go none e = admitted-all s (toi-for d named) q (if given named then d else reserved s d) (k named q refl e) (maybe-all s d named u)
       go (some n) e = u
-  everywhere-step s d (Call.remove t) k u = record {
-    waiting = each-keep P (λ o. not (is t o)) (d .queue) (u .waiting);
-    serving = each-map (λ (x : Session). InHand P (x .hand)) (in-hand (unlisted t)) (in-hand-all (unlisted t) (unlisted-all t)) (d .sessions) (u .serving);
+  everywhere-step s d (Call.touch t x) k u = record {
+    waiting = each-touched (touched-waiting t x) (touched-kept t x) P stable (d .queue) (u .waiting);
+    serving = each-map (λ (x : Session). InHand P (x .hand)) (in-hand (touched-hand t x)) (in-hand-all (touched-hand t x) (touched-all t x)) (d .sessions) (u .serving);
   }
-  everywhere-step s d (Call.trigger t f) k u = record { waiting = each-map P (prompted t f) (prompted-all t f) (d .queue) (u .waiting); serving = u .serving }
-  everywhere-step s d (Call.listed t) k u = u
-  everywhere-step s d (Call.transfers t) k u = u
+  everywhere-step s d (Call.ask q) k u = u
   everywhere-step s d Call.complete k u = record { waiting = u .waiting; serving = u .serving }
   everywhere-step s d (Call.publish now c) k u = go (publish-refusal s (d .fdt) c)
     where
-      go : (x : Option ℕ) → Everywhere P (unless x d (Answer.done, all-published (with-fdt d (fdt-published now c (d .fdt)))) .1)
+      go : (x : Option Refusal) → Everywhere P (unless x d (Answer.done, all-published (with-fdt d (fdt-published now c (d .fdt)))) .1)
       go none = marked-all (with-fdt d (fdt-published now c (d .fdt))) (fdt-all d (fdt-published now c (d .fdt)) u)
       go (some n) = u
   everywhere-step s d (Call.run-fdt now draft) k u = go (draft-refusal s (d .fdt) draft) (fdt-run s now (draft-of draft) (d .fdt))
     where
-      go : (x : Option ℕ) (r : FdtTurn) → Everywhere P (unless x d (Answer.fdt-output (r .taken) (r .packet), if r .taken then all-published (with-fdt d (r .fdt)) else with-fdt d (r .fdt)) .1)
+      go : (x : Option Refusal) (r : FdtTurn) → Everywhere P (unless x d (Answer.fdt-output (r .taken) (r .packet), if r .taken then all-published (with-fdt d (r .fdt)) else with-fdt d (r .fdt)) .1)
       go none r = elim (r .taken) as (λ t. Everywhere P (if t then all-published (with-fdt d (r .fdt)) else with-fdt d (r .fdt)))
           [ true ↦ marked-all (with-fdt d (r .fdt)) (fdt-all d (r .fdt) u) | false ↦ fdt-all d (r .fdt) u ]
       go (some n) r = u
-  everywhere-step s d (Call.run-file now i) k u = go (at (d .sessions) i) refl
+  everywhere-step s d (Call.run-file i now) k u = go (at (d .sessions) i) refl
     where
-      go : (x : Option Session) → at (d .sessions) i ≡ x → Everywhere P (maybe (Answer.refused 8, d) (ran s now i d) x .1)
+      go : (x : Option Session) → at (d .sessions) i ≡ x → Everywhere P (maybe (Answer.refused Because.NoSession, d) (ran s now i d) x .1)
       go none e = u
       go (some x) e =
           let z = file-run-all s (x .priority) now (not (eqb (length (d .fdt .state .waiting)) 0)) (d .queue) (x .hand) (u .waiting) (each-at (λ (x : Session). InHand P (x .hand)) (d .sessions) i x e (u .serving)) in
@@ -209,17 +177,10 @@ module _ (P : Object → Type 0) where
 abbrev pub Sized : Object → Type 0
 Sized o = (1 ≤ o .sizes .e) × (1 ≤ o .sizes .b)
 
--- what refusal 4 leaves
-pub in-range : (z : Sizes) (l : ℕ) → bad-blocks z l ≡ false → InRange z l
-unfolding bad-blocks
-in-range z l h =
-    let r = sizes-told z (not-false (sound-sizes z) (or-left (not (sound-sizes z)) (ltb most-blocks (blocks-of z l .blocks)) h)) in
-    record { symbol = r .symbol; block = r .block; count = ltb-false most-blocks (blocks-of z l .blocks) (or-right (not (sound-sizes z)) (ltb most-blocks (blocks-of z l .blocks)) h) }
-
 -- what an add admits has sound E and B
 added-sized : (s : Setup) (d : Desk) (named : Option ℕ) (q : Request) → add-refusal s d named q ≡ none → Sized (made s (toi-for d named) q)
 unfolding made
-added-sized s d named q h = let r = in-range (own-sizes s q) (q .part .size) (blocks-fit s d named q h) in (r .symbol .0, r .block .0)
+added-sized s d named q h = let r = blocks-told (own-sizes s q) (q .part .size) (blocks-fit s d named q h) .sizes in (r .symbol .0, r .block .0)
 
 -- so every object has, at every moment
 pub sized-step : (s : Setup) (d : Desk) (c : Call) → Everywhere Sized d → Everywhere Sized (step s d c .1)

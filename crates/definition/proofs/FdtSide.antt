@@ -9,6 +9,7 @@ use lib.Dec.{eqb, ltb, leb}
 use borrow.Author.Tests.{leb-false, ltb-false, le-ltb, eqb-false, ne-eqb}
 use lib.ListN.{length, length-append}
 use Rattle.sizes.specs.Words.{if_then_else_, maybe, given, collect, any, at, first-of, one-if, Each}
+use Rattle.sizes.specs.declared.refusal.Refusal.the-variants as Because
 use Rattle.sizes.specs.Limits.{waiting-fdts}
 use Rattle.sizes.proofs.Tests.{or-left, or-right, Tested, pass, fail, tested}
 use Rattle.sizes.proofs.Lists.{each-append, first-none}
@@ -17,15 +18,15 @@ use Rattle.lifecycle.specs.declared.parts.Part.{Part}
 use Rattle.lifecycle.specs.Lifecycle.{started, finished, may-start, unborn}
 use Rattle.lifecycle.specs.Setup.{Setup, bad-blocks}
 use Rattle.lifecycle.specs.Fdt.{Instance, FdtState, Next, fdt-plan, fdt-parts, bad-fdt-part, queued, needs-new, takes-draft, republished, front-taken, with-current, start-current, next-fdt, fdt-done}
-use Rattle.definition.specs.Encoder.{Symbol, fresh, read}
-use Rattle.definition.specs.FdtSession.{Fdt, FdtHand, FdtTurn, fdt-published, fdt-send, fdt-attempt, fdt-idle, fdt-run}
+use Rattle.definition.specs.FdtSession.{Fdt, FdtHand, FdtTurn, fdt-published, fdt-run, fdt-sent, fdt-begun}
 use Rattle.definition.specs.Session.{Session}
-use Rattle.definition.specs.Desk.{Desk, Call, Answer, opening, moved, numbered, with-fdt, all-published, removed, reserved, admitted, not-loose, full, add-refusal, publish-refusal, draft-refusal, draft-of, ran, fdt-ran, step}
+use Rattle.definition.specs.Desk.{Desk, Call, Answer, opening, moved, numbered, with-fdt, all-published, reserved, admitted, reserve-refusal, release-refusal, add-refusal, publish-refusal, draft-refusal, draft-of, ran, fdt-ran, step, touched}
 use Rattle.definition.specs.TotalPromises.{IfGiven, FdtPart, Matched, nothing, resting, sending, FdtReachable}
 use Rattle.definition.proofs.Refused.{either, kept}
 use Rattle.definition.proofs.Weights.{total, total-append}
 use Rattle.definition.proofs.PartLaws.{cover, apart-cover, cover-apart, one-cover}
 use Rattle.definition.proofs.Hands.{read-window}
+use Rattle.definition.proofs.Runs.{fdt-run-goes}
 
 abbrev Idle : Instance → Type 0
 Idle i = i .transferring ≡ false
@@ -158,18 +159,15 @@ module _ (s : Setup) (now : ℕ) (w : Part → ℕ) (b : ℕ) where
       }
 
   -- then the start
-  abbrev handed : Option Instance → Option FdtHand
-  handed = maybe none (λ (i : Instance). some record { id = i .id; part = i .part; encoder = fresh false })
-
   abbrev transfer : Instance → Instance
   transfer i = record { id = i .id; part = i .part; life = started (fdt-plan s) now (i .life); transferring = true }
 
-  begun : (draft : Option Part) (t x : Bool) (f : FdtState) → Resting draft t f → Going draft t (record { state = start-current s now x f .state; hand = handed (start-current s now x f .starts) })
+  begun : (draft : Option Part) (t x : Bool) (f : FdtState) → Resting draft t f → Going draft t (record { state = start-current s now x f .state; hand = fdt-begun (start-current s now x f .starts) })
   unfolding start-current with-current
   begun draft t x f r = go (f .current) refl
     where
       Held : Next → Type 0
-      Held n = Going draft t (record { state = n .state; hand = handed (n .starts) })
+      Held n = Going draft t (record { state = n .state; hand = fdt-begun (n .starts) })
 
       stays : Held (record { taken = x; state = f; starts = none })
       stays = record { few = r .few; idle = r .idle; matched = r .matched; window = tt; weight = r .weight }
@@ -206,7 +204,7 @@ module _ (s : Setup) (now : ℕ) (w : Part → ℕ) (b : ℕ) where
       go (some i) = either (λ (n : Next). n .taken ≡ x) (may-start (fdt-plan s) now (i .life)) _ _ refl refl
 
   next-going : (draft : Option Part) (t : Bool) (f : FdtState) → Resting draft t f
-      → (let n = next-fdt s now (offered draft t) f in Going draft (t || n .taken) (record { state = n .state; hand = handed (n .starts) }))
+      → (let n = next-fdt s now (offered draft t) f in Going draft (t || n .taken) (record { state = n .state; hand = fdt-begun (n .starts) }))
   unfolding next-fdt republished takes-draft
   next-going draft t f r = rw (idle-current (f .current) (r .matched), start-taken) (
       begun draft (t || (needs-new s now f && given (offered draft t))) (needs-new s now f && given (offered draft t)) (front-taken (republished s now (offered draft t) f))
@@ -239,60 +237,20 @@ module _ (s : Setup) (now : ℕ) (w : Part → ℕ) (b : ℕ) where
   from-rest : (draft : Option Part) (t : Bool) (f : FdtState) → Resting draft t f → Going draft t (record { state = f; hand = none })
   from-rest draft t f r = record { few = r .few; idle = r .idle; matched = r .matched; window = tt; weight = r .weight }
 
-  module _ (draft : Option Part) (again : Bool → Fdt → FdtTurn) (h-again : (t : Bool) (f : Fdt) → Going draft t f → Going draft (again t f .taken) (again t f .fdt)) where
-    send-going : (t : Bool) (f : Fdt) → Going draft t f → (let r = fdt-send s now t again f in Going draft (r .taken) (r .fdt))
-    unfolding fdt-send
-    send-going t f g = go (f .hand) refl
-      where
-        Held : FdtTurn → Type 0
-        Held r = Going draft (r .taken) (r .fdt)
-
-        sends : (x : FdtHand) → f .hand ≡ some x → Going draft t (record { state = f .state; hand = some record { id = x .id; part = x .part; encoder = read (s .window) (x .part) (s .sizes) false (x .encoder) .1 } })
-        sends x e = record {
-          few = g .few;
-          idle = g .idle;
-          matched = rehand (f .state .current) x _ refl refl (subst (Matched (f .state .current)) e (g .matched));
-          window = read-window (s .window) (x .part) (s .sizes) false (x .encoder) (subst (IfGiven (λ (h : FdtHand). length (h .encoder .window) ≤ s .window)) e (g .window));
-          weight = g .weight;
-        }
-
-        go : (h : Option FdtHand) → f .hand ≡ h → Held (maybe (record { taken = t; packet = none; fdt = f }) (λ (x : FdtHand).
-            let r = read (s .window) (x .part) (s .sizes) false (x .encoder) in
-            maybe (again t (record { state = fdt-done now (f .state); hand = none }))
-            (λ y. record {
-              taken = t;
-              packet = some record { id = some (x .id); toi = 0; symbol = y };
-              fdt = record { state = f .state; hand = some record { id = x .id; part = x .part; encoder = r .1 } };
-            })
-            (r .0)) h)
-        go none e = g
-        go (some x) e =
-            let r = read (s .window) (x .part) (s .sizes) false (x .encoder) in
-            elim (r .0) as (λ (y : Option Symbol). Held (maybe (again t (record { state = fdt-done now (f .state); hand = none })) (λ y. record {
-              taken = t;
-              packet = some record { id = some (x .id); toi = 0; symbol = y };
-              fdt = record { state = f .state; hand = some record { id = x .id; part = x .part; encoder = r .1 } };
-            }) y)) [
-              | none ↦ h-again t (record { state = fdt-done now (f .state); hand = none }) (from-rest draft t (fdt-done now (f .state)) (done-resting draft t f g))
-              | some y ↦ sends x e
-            ]
-
-    attempt-going : (t : Bool) (f : Fdt) → Going draft t f → (let r = fdt-attempt s now draft again t f in Going draft (r .taken) (r .fdt))
-    unfolding fdt-attempt
-    attempt-going t f g = go (f .hand) refl
-      where
-        Held : FdtTurn → Type 0
-        Held r = Going draft (r .taken) (r .fdt)
-
-        go : (h : Option FdtHand) → f .hand ≡ h → (let n = next-fdt s now (offered draft t) (f .state) in
-            Held (if given h then fdt-send s now t again f else fdt-send s now (t || n .taken) again (record { state = n .state; hand = handed (n .starts) })))
-        go none e = (let n = next-fdt s now (offered draft t) (f .state) in
-            send-going (t || n .taken) (record { state = n .state; hand = handed (n .starts) }) (next-going draft t (f .state) (at-rest draft t f e g)))
-        go (some h) e = send-going t f g
-
   run-going : (draft : Option Part) (f : Fdt) → Going draft false f → (let r = fdt-run s now draft f in Going draft (r .taken) (r .fdt))
-  unfolding fdt-run
-  run-going draft f g = attempt-going draft (fdt-attempt s now draft fdt-idle) (attempt-going draft fdt-idle (λ t f g. g)) false f g
+  unfolding fdt-sent
+  run-going draft f g = fdt-run-goes s now draft (Going draft) (λ (r : FdtTurn). Going draft (r .taken) (r .fdt)) (record {
+    rests = λ t f g. g;
+    sends = λ t f h y g. record {
+      few = g .few;
+      idle = g .idle;
+      matched = rehand (f .current) h _ refl refl (g .matched);
+      window = read-window (s .window) (h .part) (s .sizes) false (h .encoder) (g .window);
+      weight = g .weight;
+    };
+    ends = λ t f h g. from-rest draft t (fdt-done now f) (done-resting draft t _ g);
+    asks = λ t f e g. next-going draft t (f .state) (at-rest draft t f e g);
+  }) f g
 
 -- ---- every call keeps the FDT side
 
@@ -347,9 +305,9 @@ unfolding publish-refusal fdt-published
 published-kept s now c f e u =
     let five = bad-fdt-part s (f .state) c in
     let seven = leb waiting-fdts (length (f .state .waiting)) in
-    let r4 = first-none 4 (bad-blocks (s .sizes) (c .size)) ((5, five || eqb (c .size) 0) ∷ (7, seven) ∷ []) e in
-    let r5 = first-none 5 (five || eqb (c .size) 0) ((7, seven) ∷ []) (r4 .1) in
-    let r7 = leb-false waiting-fdts (length (f .state .waiting)) (first-none 7 seven [] (r5 .1) .0) in
+    let r4 = first-none Because.Sizes (bad-blocks (s .sizes) (c .size)) ((Because.Part, five || eqb (c .size) 0) ∷ (Because.Full, seven) ∷ []) e in
+    let r5 = first-none Because.Part (five || eqb (c .size) 0) ((Because.Full, seven) ∷ []) (r4 .1) in
+    let r7 = leb-false waiting-fdts (length (f .state .waiting)) (first-none Because.Full seven [] (r5 .1) .0) in
     let k = fits-told s f c (r4 .0) (or-left five (eqb (c .size) 0) (r5 .0)) (or-right five (eqb (c .size) 0) (r5 .0)) in
     record {
       few = (let h = queued-length now c (f .state) in omega arith);
@@ -364,10 +322,10 @@ draft-fits : (s : Setup) (f : Fdt) (draft : Option Part) → draft-refusal s f d
 unfolding draft-refusal draft-of
 draft-fits s f none e = tt
 draft-fits s f (some c) e = (elim (eqb (c .size) 0)
-    as (λ t. eqb (c .size) 0 ≡ t → maybe none (λ c. first-of ((4, bad-blocks (s .sizes) (c .size)) ∷ (5, bad-fdt-part s (f .state) c) ∷ [])) (if t then none else some c) ≡ none → IfGiven (Fits s f) (if t then none else some c)) [
+    as (λ t. eqb (c .size) 0 ≡ t → maybe none (λ c. first-of ((Because.Sizes, bad-blocks (s .sizes) (c .size)) ∷ (Because.Part, bad-fdt-part s (f .state) c) ∷ [])) (if t then none else some c) ≡ none → IfGiven (Fits s f) (if t then none else some c)) [
       | true ↦ λ z e. tt
-      | false ↦ λ z e. (let r = first-none 4 (bad-blocks (s .sizes) (c .size)) ((5, bad-fdt-part s (f .state) c) ∷ []) e in
-          fits-told s f c (r .0) (first-none 5 (bad-fdt-part s (f .state) c) [] (r .1) .0) z)
+      | false ↦ λ z e. (let r = first-none Because.Sizes (bad-blocks (s .sizes) (c .size)) ((Because.Part, bad-fdt-part s (f .state) c) ∷ []) e in
+          fits-told s f c (r .0) (first-none Because.Part (bad-fdt-part s (f .state) c) [] (r .1) .0) z)
     ]) refl e
 
 ran-kept : (s : Setup) (now : ℕ) (draft : Option Part) (f : Fdt) → IfGiven (Fits s f) draft → FdtReachable s f → FdtReachable s (fdt-run s now draft f .fdt)
@@ -398,24 +356,22 @@ ran-kept s now draft f k u = record {
     apart n = going (cover n) 1 (covers n draft k)
 
 pub fdt-step : (s : Setup) (d : Desk) (c : Call) → FdtReachable s (d .fdt) → FdtReachable s (step s d c .1 .fdt)
-unfolding step reserved numbered moved removed admitted all-published with-fdt ran fdt-ran
-fdt-step s d Call.reserve u = kept (λ e. FdtReachable s (e .fdt)) (first-of ((7, full d) ∷ [])) d _ u (λ e. u)
-fdt-step s d (Call.release t) u = kept (λ e. FdtReachable s (e .fdt)) (first-of ((6, not-loose d (some t)) ∷ [])) d _ u (λ e. u)
+unfolding step reserved numbered moved touched admitted all-published with-fdt ran fdt-ran
+fdt-step s d Call.reserve u = kept (λ e. FdtReachable s (e .fdt)) (reserve-refusal d) d _ u (λ e. u)
+fdt-step s d (Call.release t) u = kept (λ e. FdtReachable s (e .fdt)) (release-refusal d t) d _ u (λ e. u)
 fdt-step s d (Call.add named q) u = kept (λ e. FdtReachable s (e .fdt)) (add-refusal s d named q) d _ u
     (λ e. either (λ (x : Desk). FdtReachable s (x .fdt)) (given named) d (reserved s d) u u)
-fdt-step s d (Call.remove t) u = u
-fdt-step s d (Call.trigger t f) u = u
-fdt-step s d (Call.listed t) u = u
-fdt-step s d (Call.transfers t) u = u
+fdt-step s d (Call.touch t x) u = u
+fdt-step s d (Call.ask q) u = u
 fdt-step s d Call.complete u = u
 fdt-step s d (Call.publish now c) u = kept (λ e. FdtReachable s (e .fdt)) (publish-refusal s (d .fdt) c) d _ u (λ e. published-kept s now c (d .fdt) e u)
 fdt-step s d (Call.run-fdt now draft) u = kept (λ e. FdtReachable s (e .fdt)) (draft-refusal s (d .fdt) draft) d _ u (λ e.
     let r = fdt-run s now (draft-of draft) (d .fdt) in
     let v = ran-kept s now (draft-of draft) (d .fdt) (draft-fits s (d .fdt) draft e) u in
     either (λ (x : Desk). FdtReachable s (x .fdt)) (r .taken) (all-published (with-fdt d (r .fdt))) (with-fdt d (r .fdt)) v v)
-fdt-step s d (Call.run-file now i) u = go (at (d .sessions) i)
+fdt-step s d (Call.run-file i now) u = go (at (d .sessions) i)
   where
-    go : (x : Option Session) → FdtReachable s (maybe (Answer.refused 8, d) (ran s now i d) x .1 .fdt)
+    go : (x : Option Session) → FdtReachable s (maybe (Answer.refused Because.NoSession, d) (ran s now i d) x .1 .fdt)
     go none = u
     go (some x) = u
 

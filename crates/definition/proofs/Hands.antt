@@ -1,6 +1,6 @@
 -- What sessions have in hand: at most a window of open blocks, and an object of the session's priority. The sessions stay those of the set-up.
-use mathlib.Core.Path.{_≡_, refl, ap}
-use mathlib.Core.Bool.{Bool, true, false, not, _||_}
+use mathlib.Core.Path.{_≡_, refl, ap, subst, sym, _∙_}
+use mathlib.Core.Bool.{Bool, not, _||_}
 use mathlib.Core.Option.{Option, none, some}
 use mathlib.Core.List.{List, [], _∷_, map}
 use Prim.Native.Nat.{ℕ, zero, suc, _-_, _≤_, min}
@@ -8,21 +8,24 @@ use native.Mathlib.Omega.{arith}
 use lib.Dec.{eqb}
 use borrow.Author.Tests.{eqb-true}
 use lib.ListN.{length, length-append, length-set}
-use Rattle.sizes.specs.Words.{if_then_else_, maybe, given, at, cut, find, drop-first, first-of, Each}
+use Rattle.sizes.specs.Words.{if_then_else_, maybe, given, at, cut, Each}
+use Rattle.sizes.specs.declared.refusal.Refusal.the-variants as Because
 use Rattle.sizes.specs.Partition.{blocks-of}
 use Rattle.sizes.specs.declared.partition.Sizes.{Sizes}
 use Rattle.sizes.specs.declared.partition.Partition.{Partition}
 use Rattle.sizes.proofs.Tests.{and-left}
 use Rattle.sizes.proofs.Lists.{each-map, each-set, each-at, found, map-hidden, map-set-same, each-all}
 use Rattle.lifecycle.specs.declared.parts.Part.{Part}
-use Rattle.lifecycle.specs.Lifecycle.{may-start, too-early}
+use Rattle.lifecycle.specs.Lifecycle.{may-start}
 use Rattle.lifecycle.specs.Setup.{Setup}
 use Rattle.definition.specs.Encoder.{Open, Encoder, Symbol, opened, drained, fill, wrapped, emptied, without, advanced, symbol-of, visit, stopping, read}
 use Rattle.definition.specs.FdtSession.{fdt-published, fdt-run}
-use Rattle.definition.specs.Session.{Object, Hand, Session, startable, begin, put-back, forced, Turn, idle, sent, serve, go-on, take-on, file-run}
-use Rattle.definition.specs.Desk.{Desk, Call, Answer, opening, is, moved, numbered, with-fdt, in-hand, marked, marked-hand, all-published, unlisted, removed, reserved, admitted, not-loose, full, add-refusal, publish-refusal, draft-refusal, draft-of, ran, fdt-queued, fdt-ran, step}
+use Rattle.definition.specs.Session.{Object, Hand, Session, startable, begin, forced, Turn, sent, file-run}
+use Rattle.definition.specs.Desk.{Desk, Call, Answer, opening, moved, numbered, with-fdt, in-hand, marked, marked-hand, all-published, reserved, admitted, reserve-refusal, release-refusal, add-refusal, publish-refusal, draft-refusal, draft-of, ran, fdt-queued, fdt-ran, step, Touch, touched-hand, touched}
 use Rattle.definition.specs.TotalPromises.{IfGiven, InHands}
 use Rattle.definition.proofs.Refused.{either, kept}
+use Rattle.definition.proofs.Touches.{touched-hand-kept}
+use Rattle.definition.proofs.Runs.{run-goes}
 
 -- ---- the window of an encoder
 
@@ -72,40 +75,17 @@ read-window w c z force x h = either (λ (r : Option Symbol × Encoder). length 
 
 -- ---- a file session's run
 
-module _ (s : Setup) (p now : ℕ) where
-  module _ (again : List Object → Turn) (h-again : (q : List Object) → IfGiven (InHands s p) (again q .hand)) where
-    serve-hand : (q : List Object) (h : Hand) → InHands s p h → IfGiven (InHands s p) (serve s now again q h .hand)
-    unfolding serve sent
-    serve-hand q h u =
-        let r = read (s .window) (h .object .part) (h .object .sizes) (forced h) (h .encoder) in
-        elim (too-early now (h .pace)) as (λ t. IfGiven (InHands s p) ((if t then idle q (some h) else maybe (again (put-back now h q)) (sent q h (r .1)) (r .0)) .hand)) [
-          | true ↦ u
-          | false ↦ elim (r .0) as (λ (y : Option Symbol). IfGiven (InHands s p) (maybe (again (put-back now h q)) (sent q h (r .1)) y .hand)) [
-            | none ↦ h-again (put-back now h q)
-            | some y ↦ record { priority = u .priority; window = read-window (s .window) (h .object .part) (h .object .sizes) (forced h) (h .encoder) (u .window) }
-          ]
-        ]
-
-    go-on-hand : (b : Bool) (q : List Object) (h : Hand) → InHands s p h → IfGiven (InHands s p) (go-on s now b again q h .hand)
-    unfolding go-on
-    go-on-hand true q h u = u
-    go-on-hand false q h u = serve-hand q h u
-
-    take-on-hand : (b : Bool) (q : List Object) → IfGiven (InHands s p) (take-on s p now b again q .hand)
-    unfolding take-on begin startable
-    take-on-hand b q = go (find (startable p now) q) refl
-      where
-        go : (x : Option Object) → find (startable p now) q ≡ x → IfGiven (InHands s p) (maybe (idle q none) (λ o. go-on s now b again (drop-first (startable p now) q) (begin now o)) x .hand)
-        go none e = tt
-        go (some o) e = go-on-hand b (drop-first (startable p now) q) (begin now o) (record {
-          priority = eqb-true (o .priority) p (and-left (eqb (o .priority) p) (may-start (o .plan) now (o .life)) (found (startable p now) q o e));
-          window = omega arith;
-        })
-
-  file-run-hand : (b : Bool) (q : List Object) (h : Option Hand) → IfGiven (InHands s p) h → IfGiven (InHands s p) (file-run s p now b q h .hand)
-  unfolding file-run
-  file-run-hand b q none u = take-on-hand (λ q′. idle q′ none) (λ q′. tt) b q
-  file-run-hand b q (some h) u = go-on-hand (take-on s p now b (λ q′. idle q′ none)) (λ q′. take-on-hand (λ q″. idle q″ none) (λ q″. tt) b q′) b q h u
+file-run-hand : (s : Setup) (p now : ℕ) (b : Bool) (q : List Object) (h : Option Hand) → IfGiven (InHands s p) h → IfGiven (InHands s p) (file-run s p now b q h .hand)
+unfolding sent begin startable
+file-run-hand s p now b q h u = run-goes s p now b (λ q h. IfGiven (InHands s p) h) (λ (t : Turn). IfGiven (InHands s p) (t .hand)) (record {
+  rests = λ q h i. i;
+  sends = λ q h y i. record { priority = i .priority; window = read-window (s .window) (h .object .part) (h .object .sizes) (forced h) (h .encoder) (i .window) };
+  ends = λ q h i. tt;
+  takes = λ q o e i. record {
+    priority = eqb-true (o .priority) p (and-left (eqb (o .priority) p) (may-start (o .plan) now (o .life)) (found (startable p now) q o e));
+    window = omega arith;
+  };
+}) q h u
 
 -- ---- every call
 
@@ -138,23 +118,22 @@ published-served s d u = in-hand-served s marked-hand one (d .sessions) u
     one : (p : ℕ) (h : Hand) → InHands s p h → InHands s p (marked-hand h)
     one p h v = either (InHands s p) (h .listed) _ h (record { priority = v .priority; window = v .window }) v
 
-unlisted-hand : (s : Setup) (t p : ℕ) (h : Hand) → InHands s p h → InHands s p (unlisted t h)
-unfolding unlisted
-unlisted-hand s t p h v = either (InHands s p) (is t (h .object)) _ h (record { priority = v .priority; window = v .window }) v
+touched-in-hand : (s : Setup) (t : ℕ) (x : Touch) (p : ℕ) (h : Hand) → InHands s p h → InHands s p (touched-hand t x h)
+touched-in-hand s t x p h v =
+    let k = touched-hand-kept t x h in
+    record { priority = ap (λ (o : Object). o .priority) (k .object) ∙ v .priority; window = subst (λ (e : Encoder). length (e .window) ≤ s .window) (sym (k .encoder)) (v .window) }
 
 stays : (s : Setup) (l : List Session) → HandsKept s l → Served s l l
 stays s l u = record { hands = u; same = refl }
 
 served-step : (s : Setup) (d : Desk) (c : Call) → HandsKept s (d .sessions) → Served s (d .sessions) (step s d c .1 .sessions)
-unfolding step reserved numbered moved removed admitted with-fdt ran fdt-ran
-served-step s d Call.reserve u = kept (λ e. Served s (d .sessions) (e .sessions)) (first-of ((7, full d) ∷ [])) d _ (stays s (d .sessions) u) (λ e. stays s (d .sessions) u)
-served-step s d (Call.release t) u = kept (λ e. Served s (d .sessions) (e .sessions)) (first-of ((6, not-loose d (some t)) ∷ [])) d _ (stays s (d .sessions) u) (λ e. stays s (d .sessions) u)
+unfolding step reserved numbered moved touched admitted with-fdt ran fdt-ran
+served-step s d Call.reserve u = kept (λ e. Served s (d .sessions) (e .sessions)) (reserve-refusal d) d _ (stays s (d .sessions) u) (λ e. stays s (d .sessions) u)
+served-step s d (Call.release t) u = kept (λ e. Served s (d .sessions) (e .sessions)) (release-refusal d t) d _ (stays s (d .sessions) u) (λ e. stays s (d .sessions) u)
 served-step s d (Call.add named q) u = kept (λ e. Served s (d .sessions) (e .sessions)) (add-refusal s d named q) d _ (stays s (d .sessions) u)
     (λ e. either (λ (x : Desk). Served s (d .sessions) (x .sessions)) (given named) d (reserved s d) (stays s (d .sessions) u) (stays s (d .sessions) u))
-served-step s d (Call.remove t) u = in-hand-served s (unlisted t) (unlisted-hand s t) (d .sessions) u
-served-step s d (Call.trigger t f) u = stays s (d .sessions) u
-served-step s d (Call.listed t) u = stays s (d .sessions) u
-served-step s d (Call.transfers t) u = stays s (d .sessions) u
+served-step s d (Call.touch t x) u = in-hand-served s (touched-hand t x) (touched-in-hand s t x) (d .sessions) u
+served-step s d (Call.ask q) u = stays s (d .sessions) u
 served-step s d Call.complete u = stays s (d .sessions) u
 served-step s d (Call.publish now c) u = kept (λ e. Served s (d .sessions) (e .sessions)) (publish-refusal s (d .fdt) c) d _ (stays s (d .sessions) u)
     (λ e. published-served s (with-fdt d (fdt-published now c (d .fdt))) u)
@@ -163,9 +142,9 @@ served-step s d (Call.run-fdt now draft) u =
     kept (λ e. Served s (d .sessions) (e .sessions)) (draft-refusal s (d .fdt) draft) d _ (stays s (d .sessions) u)
     (λ e. either (λ (x : Desk). Served s (d .sessions) (x .sessions)) (r .taken) (all-published (with-fdt d (r .fdt))) (with-fdt d (r .fdt))
     (published-served s (with-fdt d (r .fdt)) u) (stays s (d .sessions) u))
-served-step s d (Call.run-file now i) u = go (at (d .sessions) i) refl
+served-step s d (Call.run-file i now) u = go (at (d .sessions) i) refl
   where
-    go : (x : Option Session) → at (d .sessions) i ≡ x → Served s (d .sessions) (maybe (Answer.refused 8, d) (ran s now i d) x .1 .sessions)
+    go : (x : Option Session) → at (d .sessions) i ≡ x → Served s (d .sessions) (maybe (Answer.refused Because.NoSession, d) (ran s now i d) x .1 .sessions)
     go none e = stays s (d .sessions) u
     go (some x) e =
         let P : Session → Type 0 = λ (y : Session). IfGiven (InHands s (y .priority)) (y .hand) in

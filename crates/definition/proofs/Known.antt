@@ -7,18 +7,21 @@ use Prim.Native.Nat.{ℕ}
 use lib.Dec.{eqb}
 use borrow.Author.Tests.{eqb-true, eq-eqb}
 use lib.ListN.{length}
-use Rattle.sizes.specs.Words.{if_then_else_, maybe, given, keep, at, has, find, drop-first, first-of}
-use Rattle.definition.specs.Encoder.{Symbol, read}
-use Rattle.lifecycle.specs.Lifecycle.{triggered, too-early, expired, finished, may-start}
+use Rattle.sizes.specs.Words.{if_then_else_, maybe, given, keep, at, has, drop-first}
+use Rattle.sizes.specs.declared.refusal.Refusal.the-variants as Because
+use Rattle.sizes.specs.declared.refusal.Refusal.{Refusal}
+use Rattle.lifecycle.specs.Lifecycle.{expired, finished, may-start}
 use Rattle.lifecycle.specs.Setup.{Setup}
 use Rattle.definition.specs.FdtSession.{Fdt, FdtTurn, Packet, fdt-published, fdt-run}
-use Rattle.definition.specs.Session.{Object, Hand, Session, living, startable, begin, put-back, forced, Turn, idle, sent, serve, go-on, take-on, file-run}
-use Rattle.definition.specs.Desk.{Desk, Request, Call, Answer, opening, is, moved, numbered, with-fdt, in-hand, marked, marked-hand, all-published, unlisted, removed, prompted, reserved, toi-for, made, admitted, not-loose, full, add-refusal, publish-refusal, draft-refusal, draft-of, unless, ran, step, unloosed, fdt-queued, fdt-ran}
-use Rattle.definition.specs.Apart.{mine, noted}
+use Rattle.definition.specs.Session.{Object, Hand, Session, living, startable, begin, put-back, Turn, sent, file-run}
+use Rattle.definition.specs.Desk.{Desk, Request, Call, Answer, opening, moved, numbered, with-fdt, in-hand, marked, marked-hand, all-published, reserved, toi-for, made, admitted, reserve-refusal, release-refusal, add-refusal, publish-refusal, draft-refusal, draft-of, unless, ran, step, unloosed, fdt-queued, fdt-ran, Touch, touched-waiting, touched-hand, touched}
+use Rattle.definition.specs.Apart.{mine, got-after}
 use Rattle.definition.proofs.View.{retag, seen, seen-append, seen-other}
 use Rattle.sizes.specs.Words.{Each}
 use Rattle.sizes.proofs.Tests.{and-left}
-use Rattle.sizes.proofs.Lists.{each-append, each-keep, each-drop-first, each-map, each-set, each-find, each-at, each-imp, found}
+use Rattle.sizes.proofs.Lists.{each-append, each-drop-first, each-map, each-set, each-find, each-at, each-imp, found}
+use Rattle.definition.proofs.Touches.{touched-kept, touched-hand-kept, each-touched}
+use Rattle.definition.proofs.Runs.{run-goes}
 
 -- the number of the priority's object is among those that admissions got
 abbrev pub Noted : ℕ → List ℕ → Object → Type 0
@@ -52,40 +55,16 @@ module _ (p : ℕ) (j : List ℕ) where
       elim (h .listed && not (expired (o .plan) (o .life))) as (λ t. Each (Noted p j) (if t then q ++ (o ∷ []) else q))
       [ true ↦ each-append (Noted p j) q (o ∷ []) u (v, tt) | false ↦ u ]
 
-  module _ (r : ℕ) (s : Setup) (now : ℕ) (again : List Object → Turn) (h-again : (q : List Object) → Each (Noted p j) q → TurnFits p j r (again q)) where
-    serve-known : (q : List Object) (h : Hand) → Each (Noted p j) q → HeldFits p j r (some h) → TurnFits p j r (serve s now again q h)
-    unfolding serve sent
-    serve-known q h u v = elim (too-early now (h .pace))
-        as (λ t. TurnFits p j r (if t then idle q (some h) else maybe (again (put-back now h q)) (sent q h (read (s .window) (h .object .part) (h .object .sizes) (forced h) (h .encoder) .1)) (read (s .window) (h .object .part) (h .object .sizes) (forced h) (h .encoder) .0))) [
-          | true ↦ (u, v, tt)
-          | false ↦ elim (read (s .window) (h .object .part) (h .object .sizes) (forced h) (h .encoder) .0)
-              as (λ (y : Option Symbol). TurnFits p j r (maybe (again (put-back now h q)) (sent q h (read (s .window) (h .object .part) (h .object .sizes) (forced h) (h .encoder) .1)) y))
-              [ none ↦ h-again (put-back now h q) (back-known now h q u (v .1)) | some y ↦ (u, v, λ e. v .1 (ap (λ n. eqb n p) (v .0) ∙ e)) ]
-        ]
-
-    go-on-known : (b : Bool) (q : List Object) (h : Hand) → Each (Noted p j) q → HeldFits p j r (some h) → TurnFits p j r (go-on s now b again q h)
-    unfolding go-on
-    go-on-known true q h u v = (u, v, tt)
-    go-on-known false q h u v = serve-known q h u v
-
-    take-on-known : (b : Bool) (q : List Object) → Each (Noted p j) q → TurnFits p j r (take-on s r now b again q)
-    unfolding take-on begin startable
-    take-on-known b q u = go (find (startable r now) q) refl
-      where
-        go : (x : Option Object) → find (startable r now) q ≡ x
-            → TurnFits p j r (maybe (idle q none) (λ o. go-on s now b again (drop-first (startable r now) q) (begin now o)) x)
-        go none e = (u, tt, tt)
-        go (some o) e =
-            let k = each-find (Noted p j) (startable r now) q o e u in
-            go-on-known b (drop-first (startable r now) q) (begin now o) (each-drop-first (Noted p j) (startable r now) q u)
-            (eqb-true (o .priority) r (and-left (eqb (o .priority) r) (may-start (o .plan) now (o .life)) (k .1)), k .0)
-
   pub file-run-known : (r : ℕ) (s : Setup) (now : ℕ) (b : Bool) (q : List Object) (h : Option Hand) → Each (Noted p j) q → HeldFits p j r h
       → TurnFits p j r (file-run s r now b q h)
-  unfolding file-run
-  file-run-known r s now b q none u v = take-on-known r s now (λ q′. idle q′ none) (λ q′ w. (w, tt, tt)) b q u
-  file-run-known r s now b q (some h) u v = go-on-known r s now (take-on s r now b (λ q′. idle q′ none))
-      (λ q′ w. take-on-known r s now (λ q″. idle q″ none) (λ q″ z. (z, tt, tt)) b q′ w) b q h u v
+  unfolding sent begin startable
+  file-run-known r s now b q h u v = run-goes s r now b (λ q h. Each (Noted p j) q × HeldFits p j r h) (TurnFits p j r) (record {
+    rests = λ q h i. (i .0, i .1, tt);
+    sends = λ q h y i. (i .0, i .1, λ e. i .1 .1 (ap (λ n. eqb n p) (i .1 .0) ∙ e));
+    ends = λ q h i. (back-known now h q (i .0) (i .1 .1), tt);
+    takes = λ q o e i. (let k = each-find (Noted p j) (startable r now) q o e (i .0) in
+        (each-drop-first (Noted p j) (startable r now) q (i .0), (eqb-true (o .priority) r (and-left (eqb (o .priority) r) (may-start (o .plan) now (o .life)) (k .1)), k .0)));
+  }) q h (u, v)
 
 -- a run of another priority's session leaves what is seen of the queue
 module _ (p : ℕ) (f : ℕ → ℕ) where
@@ -104,40 +83,27 @@ module _ (p : ℕ) (f : ℕ → ℕ) where
         [ true ↦ ap (λ l. retag f o ∷ l) (seen-dropped ok q u) | false ↦ seen-dropped ok q u ]
   ]) refl
 
-  module _ (s : Setup) (now : ℕ) (again : List Object → Turn) (h-again : (q : List Object) → seen p f (again q .queue) ≡ seen p f q) where
-    serve-other : (q : List Object) (h : Hand) → mine p (h .object) ≡ false → seen p f (serve s now again q h .queue) ≡ seen p f q
-    unfolding serve sent
-    serve-other q h e = elim (too-early now (h .pace))
-        as (λ t. seen p f ((if t then idle q (some h) else maybe (again (put-back now h q)) (sent q h (read (s .window) (h .object .part) (h .object .sizes) (forced h) (h .encoder) .1)) (read (s .window) (h .object .part) (h .object .sizes) (forced h) (h .encoder) .0)) .queue) ≡ seen p f q) [
-          | true ↦ refl
-          | false ↦ elim (read (s .window) (h .object .part) (h .object .sizes) (forced h) (h .encoder) .0)
-              as (λ (y : Option Symbol). seen p f (maybe (again (put-back now h q)) (sent q h (read (s .window) (h .object .part) (h .object .sizes) (forced h) (h .encoder) .1)) y .queue) ≡ seen p f q)
-              [ none ↦ h-again (put-back now h q) ∙ back-other now h q e | some y ↦ refl ]
-        ]
+  -- what another priority's session has in hand
+  abbrev Other : Option Hand → Type 0
+  Other none = Unit {0}
+  Other (some h) = mine p (h .object) ≡ false
 
-    go-on-other : (b : Bool) (q : List Object) (h : Hand) → mine p (h .object) ≡ false → seen p f (go-on s now b again q h .queue) ≡ seen p f q
-    unfolding go-on
-    go-on-other true q h e = refl
-    go-on-other false q h e = serve-other q h e
-
-    take-on-other : (r : ℕ) → eqb r p ≡ false → (b : Bool) (q : List Object) → seen p f (take-on s r now b again q .queue) ≡ seen p f q
-    unfolding take-on begin startable
-    take-on-other r k b q = go (find (startable r now) q) refl
-      where
-        other : (o : Object) → startable r now o ≡ true → mine p o ≡ false
-        other o e = ap (λ n. eqb n p) (eqb-true (o .priority) r (and-left (eqb (o .priority) r) (may-start (o .plan) now (o .life)) e)) ∙ k
-
-        go : (x : Option Object) → find (startable r now) q ≡ x
-            → seen p f (maybe (idle q none) (λ o. go-on s now b again (drop-first (startable r now) q) (begin now o)) x .queue) ≡ seen p f q
-        go none e = refl
-        go (some o) e = go-on-other b (drop-first (startable r now) q) (begin now o) (other o (found (startable r now) q o e)) ∙ seen-dropped (startable r now) q other
+  held-other : (r : ℕ) → eqb r p ≡ false → (j : List ℕ) (h : Option Hand) → HeldFits p j r h → Other h
+  held-other r k j none v = tt
+  held-other r k j (some h) v = ap (λ n. eqb n p) (v .0) ∙ k
 
   pub file-run-other : (r : ℕ) → eqb r p ≡ false → (s : Setup) (now : ℕ) (b : Bool) (q : List Object) (j : List ℕ) (h : Option Hand) → HeldFits p j r h
       → seen p f (file-run s r now b q h .queue) ≡ seen p f q
-  unfolding file-run
-  file-run-other r k s now b q j none v = take-on-other s now (λ q′. idle q′ none) (λ q′. refl) r k b q
-  file-run-other r k s now b q j (some h) v = go-on-other s now (take-on s r now b (λ q′. idle q′ none))
-      (λ q′. take-on-other s now (λ q″. idle q″ none) (λ q″. refl) r k b q′) b q h (ap (λ n. eqb n p) (v .0) ∙ k)
+  unfolding sent begin startable
+  file-run-other r k s now b q₀ j h₀ v = run-goes s r now b (λ q h. (seen p f q ≡ seen p f q₀) × Other h) (λ (t : Turn). seen p f (t .queue) ≡ seen p f q₀) (record {
+    rests = λ q h i. i .0;
+    sends = λ q h y i. i .0;
+    ends = λ q h i. (back-other now h q (i .1) ∙ i .0, tt);
+    takes = λ q o e i. (seen-dropped (startable r now) q other ∙ i .0, other o (found (startable r now) q o e));
+  }) q₀ h₀ (refl, held-other r k j h₀ v)
+    where
+      other : (o : Object) → startable r now o ≡ true → mine p o ≡ false
+      other o e = ap (λ n. eqb n p) (eqb-true (o .priority) r (and-left (eqb (o .priority) r) (may-start (o .plan) now (o .life)) e)) ∙ k
 
 -- a change to held objects that keeps their numbers and priorities
 in-hand-known : (p : ℕ) (j : List ℕ) (g : Hand → Hand) → ((h : Hand) → (g h .object .priority ≡ h .object .priority) × (g h .object .toi ≡ h .object .toi))
@@ -155,15 +121,8 @@ marked-held-same h = elim (h .listed) as (λ t. (((if t then record { object = m
     × ((if t then record { object = marked (h .object); listed = true; encoder = h .encoder; pace = h .pace } else h) .object .toi ≡ h .object .toi)))
     [ true ↦ (refl, refl) | false ↦ (refl, refl) ]
 
-unlisted-same : (t : ℕ) (h : Hand) → (unlisted t h .object .priority ≡ h .object .priority) × (unlisted t h .object .toi ≡ h .object .toi)
-unfolding unlisted
-unlisted-same t h = elim (is t (h .object)) as (λ b. (((if b then record { object = h .object; listed = false; encoder = h .encoder; pace = h .pace } else h) .object .priority ≡ h .object .priority)
-    × ((if b then record { object = h .object; listed = false; encoder = h .encoder; pace = h .pace } else h) .object .toi ≡ h .object .toi)))
-    [ true ↦ (refl, refl) | false ↦ (refl, refl) ]
-
-prompted-known : (p : ℕ) (j : List ℕ) (t : ℕ) (f : Option ℕ) (o : Object) → Noted p j o → Noted p j (prompted t f o)
-unfolding prompted
-prompted-known p j t f o u = elim (is t o) as (λ b. Noted p j (if b then living (triggered f (o .life)) o else o)) [ true ↦ u | false ↦ u ]
+touched-same : (t : ℕ) (x : Touch) (h : Hand) → (touched-hand t x h .object .priority ≡ h .object .priority) × (touched-hand t x h .object .toi ≡ h .object .toi)
+touched-same t x h = let k = touched-hand-kept t x h in (ap (λ (o : Object). o .priority) (k .object), ap (λ (o : Object). o .toi) (k .object))
 
 published-known : (p : ℕ) (j : List ℕ) (d : Desk) → Known p j d → Known p j (all-published d)
 unfolding all-published moved marked
@@ -207,7 +166,7 @@ has-first : (t : ℕ) (j : List ℕ) → has t (t ∷ j) ≡ true
 has-first t j = rw (eq-eqb t t refl)
 
 pub add-known : (p : ℕ) (j : List ℕ) (s : Setup) (t : ℕ) (q : Request) (d : Desk) (named : Option ℕ) → Known p j d
-    → Known p (noted p (Call.add named q) (Answer.number t) j) (admitted s t q (if given named then d else reserved s d))
+    → Known p (got-after p (Call.add named q) (Answer.number t) j) (admitted s t q (if given named then d else reserved s d))
 add-known p j s t q d named u = (elim (eqb (q .priority) p) as (λ b. eqb (q .priority) p ≡ b → Known p (if b then t ∷ j else j) (admitted s t q (if given named then d else reserved s d))) [
   | true ↦ λ e. admitted-known p (t ∷ j) s t q (if given named then d else reserved s d) (λ k. has-first t j) (more-known p t j (if given named then d else reserved s d) (reserved-known p j s d named u))
   | false ↦ λ e. admitted-known p j s t q (if given named then d else reserved s d) (λ k. absurd (true≢false (sym k ∙ e))) (reserved-known p j s d named u)
@@ -220,46 +179,44 @@ ran-known p j s now i d x e u =
     record { waiting = k .0; serving = each-set (Fits p j) (d .sessions) i _ (u .serving) (k .1) }
 
 -- every call keeps it
-pub known-step : (p : ℕ) (j : List ℕ) (s : Setup) (d : Desk) (c : Call) → Known p j d → Known p (noted p c (step s d c .0) j) (step s d c .1)
-unfolding step numbered moved removed unloosed fdt-ran
-known-step p j s d Call.reserve u = go (first-of ((7, full d) ∷ []))
+pub known-step : (p : ℕ) (j : List ℕ) (s : Setup) (d : Desk) (c : Call) → Known p j d → Known p (got-after p c (step s d c .0) j) (step s d c .1)
+unfolding step numbered moved touched unloosed fdt-ran
+known-step p j s d Call.reserve u = go (reserve-refusal d)
   where
-    go : (x : Option ℕ) → Known p j (unless x d (Answer.number (d .next), reserved s d) .1)
+    go : (x : Option Refusal) → Known p j (unless x d (Answer.number (d .next), reserved s d) .1)
     go none = reserved-known p j s d none u
     go (some n) = u
-known-step p j s d (Call.release t) u = go (first-of ((6, not-loose d (some t)) ∷ []))
+known-step p j s d (Call.release t) u = go (release-refusal d t)
   where
-    go : (x : Option ℕ) → Known p j (unless x d (Answer.done, numbered d (d .next) (keep (λ v. not (eqb v t)) (d .loose))) .1)
+    go : (x : Option Refusal) → Known p j (unless x d (Answer.done, numbered d (d .next) (keep (λ v. not (eqb v t)) (d .loose))) .1)
     go none = record { waiting = u .waiting; serving = u .serving }
     go (some n) = u
 known-step p j s d (Call.add named q) u = go (add-refusal s d named q)
   where
-    go : (x : Option ℕ) → Known p (noted p (Call.add named q) (unless x d (Answer.number (toi-for d named), admitted s (toi-for d named) q (if given named then d else reserved s d)) .0) j)
+    go : (x : Option Refusal) → Known p (got-after p (Call.add named q) (unless x d (Answer.number (toi-for d named), admitted s (toi-for d named) q (if given named then d else reserved s d)) .0) j)
         (unless x d (Answer.number (toi-for d named), admitted s (toi-for d named) q (if given named then d else reserved s d)) .1)
     go none = add-known p j s (toi-for d named) q d named u
     go (some n) = u
-known-step p j s d (Call.remove t) u = record {
-  waiting = each-keep (Noted p j) (λ o. not (is t o)) (d .queue) (u .waiting);
-  serving = each-map (Fits p j) (in-hand (unlisted t)) (in-hand-known p j (unlisted t) (unlisted-same t)) (d .sessions) (u .serving);
+known-step p j s d (Call.touch t x) u = record {
+  waiting = each-touched (touched-waiting t x) (touched-kept t x) (Noted p j) (λ l o v. v) (d .queue) (u .waiting);
+  serving = each-map (Fits p j) (in-hand (touched-hand t x)) (in-hand-known p j (touched-hand t x) (touched-same t x)) (d .sessions) (u .serving);
 }
-known-step p j s d (Call.trigger t f) u = record { waiting = each-map (Noted p j) (prompted t f) (prompted-known p j t f) (d .queue) (u .waiting); serving = u .serving }
-known-step p j s d (Call.listed t) u = u
-known-step p j s d (Call.transfers t) u = u
+known-step p j s d (Call.ask q) u = u
 known-step p j s d Call.complete u = record { waiting = u .waiting; serving = u .serving }
 known-step p j s d (Call.publish now c) u = go (publish-refusal s (d .fdt) c)
   where
-    go : (x : Option ℕ) → Known p j (unless x d (Answer.done, all-published (with-fdt d (fdt-published now c (d .fdt)))) .1)
+    go : (x : Option Refusal) → Known p j (unless x d (Answer.done, all-published (with-fdt d (fdt-published now c (d .fdt)))) .1)
     go none = published-known p j (with-fdt d (fdt-published now c (d .fdt))) (with-fdt-known p j d (fdt-published now c (d .fdt)) u)
     go (some n) = u
 known-step p j s d (Call.run-fdt now draft) u = go (draft-refusal s (d .fdt) draft) (fdt-run s now (draft-of draft) (d .fdt))
   where
-    go : (x : Option ℕ) (r : FdtTurn) → Known p j (unless x d (Answer.fdt-output (r .taken) (r .packet), if r .taken then all-published (with-fdt d (r .fdt)) else with-fdt d (r .fdt)) .1)
+    go : (x : Option Refusal) (r : FdtTurn) → Known p j (unless x d (Answer.fdt-output (r .taken) (r .packet), if r .taken then all-published (with-fdt d (r .fdt)) else with-fdt d (r .fdt)) .1)
     go none r = elim (r .taken) as (λ t. Known p j (if t then all-published (with-fdt d (r .fdt)) else with-fdt d (r .fdt)))
         [ true ↦ published-known p j (with-fdt d (r .fdt)) (with-fdt-known p j d (r .fdt) u) | false ↦ with-fdt-known p j d (r .fdt) u ]
     go (some n) r = u
-known-step p j s d (Call.run-file now i) u = go (at (d .sessions) i) refl
+known-step p j s d (Call.run-file i now) u = go (at (d .sessions) i) refl
   where
-    go : (x : Option Session) → at (d .sessions) i ≡ x → Known p j (maybe (Answer.refused 8, d) (ran s now i d) x .1)
+    go : (x : Option Session) → at (d .sessions) i ≡ x → Known p j (maybe (Answer.refused Because.NoSession, d) (ran s now i d) x .1)
     go none e = u
     go (some x) e = ran-known p j s now i d x e u
 

@@ -1,5 +1,10 @@
--- Proofs of what specs/ promises of the desk. Refusals and rounds; object numbers; one priority apart from the others; examples.
+-- Proofs of what specs/ promises of the desk. Computed examples first, so that they are the first to refuse a wrong definition; refusals and rounds; object numbers; one priority apart from the others.
+pub mod Opened
+pub mod AllExamples
+pub mod ApartExamples
 pub mod Refused
+pub mod RefusalTables
+pub mod Runs
 pub mod Everywhere
 pub mod Rounds
 pub mod FileRounds
@@ -12,12 +17,9 @@ pub mod Hands
 pub mod FdtSide
 pub mod Reachable
 pub mod View
+pub mod Touches
 pub mod Known
 pub mod ApartLaws
 pub mod Alone
 pub mod AskedLoose
 pub mod OnlyThese
-pub mod Opened
-pub mod Sheet
-pub mod Trial
-pub mod ApartExamples

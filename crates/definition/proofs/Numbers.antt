@@ -1,6 +1,6 @@
 -- Object numbers: what a call does to those that are held, and so: none is given twice, all are in range, and their entries suffice.
 use mathlib.Core.Path.{_≡_, refl, sym, _∙_, ap, subst}
-use mathlib.Core.Bool.{Bool, true, false, not, _&&_, _||_, false≢true}
+use mathlib.Core.Bool.{true, false, not, _&&_, _||_, false≢true}
 use mathlib.Core.Option.{Option, none, some}
 use mathlib.Core.List.{List, [], _∷_, _++_, map}
 use Prim.Native.Nat.{ℕ, _+_, _≤_, _<_}
@@ -8,7 +8,8 @@ use native.Mathlib.Omega.{arith}
 use lib.Dec.{eqb, leb}
 use borrow.Author.Tests.{not-false, eqb-true, eq-eqb, leb-false}
 use lib.ListN.{length}
-use Rattle.sizes.specs.Words.{if_then_else_, maybe, given, keep, at, has, first-of, times, one-if}
+use Rattle.sizes.specs.Words.{if_then_else_, maybe, given, keep, at, has, times, one-if}
+use Rattle.sizes.specs.declared.refusal.Refusal.the-variants as Because
 use Rattle.sizes.specs.Limits.{toi-entries, object-slots}
 use Rattle.sizes.specs.Toi.{Toi, first-toi, next-toi}
 use Rattle.sizes.proofs.Tests.{or-left, or-right, Tested, pass, fail, tested, none≢some}
@@ -18,9 +19,10 @@ use Rattle.lifecycle.specs.declared.parts.Part.{Part}
 use Rattle.lifecycle.specs.Setup.{Setup, bad-blocks}
 use Rattle.definition.specs.FdtSession.{fdt-run}
 use Rattle.definition.specs.Session.{Object, Session}
-use Rattle.definition.specs.Desk.{Desk, Request, Call, Answer, opening, objects, numbers, moved, numbered, with-fdt, all-published, removed, reserved, unloosed, toi-for, own-sizes, made, admitted, no-session, bad-object-part, not-loose, full, no-room, add-refusal, publish-refusal, draft-refusal, draft-of, Result, ran, fdt-ran, step}
+use Rattle.definition.specs.Desk.{Desk, Request, Call, Answer, opening, objects, numbers, moved, numbered, with-fdt, all-published, reserved, unloosed, toi-for, own-sizes, made, admitted, bad-object-part, not-loose, full, no-room, reserve-refusal, release-refusal, add-refusal, publish-refusal, draft-refusal, draft-of, Result, ran, fdt-ran, step, touched}
 use Rattle.definition.specs.Apart.{adding, number-in}
-use Rattle.definition.proofs.Refused.{either, kept, settled}
+use Rattle.definition.proofs.RefusalTables.{add-fails}
+use Rattle.definition.proofs.Refused.{plain, either, kept, settled}
 use Rattle.definition.proofs.Weights.{total, total-append, total-keep, total-over, total-times, total-length, total-admitted, none-yet, lighter}
 pub use Rattle.definition.specs.TotalPromises.{Unique, Given, HeldFrom}
 
@@ -40,25 +42,12 @@ pub record Admissible (s : Setup) (d : Desk) (named : Option ℕ) (c : Part) : T
   pub is-loose : not-loose d named ≡ false
   pub has-room : no-room d named ≡ false
 
-six : (a b c d e f : Bool) → first-of ((2, a) ∷ (3, b) ∷ (4, c) ∷ (5, d) ∷ (6, e) ∷ (7, f) ∷ []) ≡ none → (c ≡ false) × (d ≡ false) × (e ≡ false) × (f ≡ false)
-six a b c d e f h =
-    let r2 = first-none 2 a ((3, b) ∷ (4, c) ∷ (5, d) ∷ (6, e) ∷ (7, f) ∷ []) h in
-    let r3 = first-none 3 b ((4, c) ∷ (5, d) ∷ (6, e) ∷ (7, f) ∷ []) (r2 .1) in
-    let r4 = first-none 4 c ((5, d) ∷ (6, e) ∷ (7, f) ∷ []) (r3 .1) in
-    let r5 = first-none 5 d ((6, e) ∷ (7, f) ∷ []) (r4 .1) in
-    let r6 = first-none 6 e ((7, f) ∷ []) (r5 .1) in
-    let r7 = first-none 7 f [] (r6 .1) in (r4 .0, r5 .0, r6 .0, r7 .0)
-
 module _ (s : Setup) (d : Desk) (named : Option ℕ) (q : Request) (e : add-refusal s d named q ≡ none) where
-  told : (bad-blocks (own-sizes s q) (q .part .size) ≡ false) × (bad-object-part s d (q .part) ≡ false) × (not-loose d named ≡ false) × (no-room d named ≡ false)
-  unfolding add-refusal
-  told = six (no-session d (q .priority)) (d .complete) (bad-blocks (own-sizes s q) (q .part .size)) (bad-object-part s d (q .part)) (not-loose d named) (no-room d named) e
-
   pub admissible : Admissible s d named (q .part)
-  admissible = let r = told in record { part-fits = r .1; is-loose = r .2; has-room = r .3 }
+  admissible = let r = add-fails s d named q e .1 .1 .1 in record { part-fits = r .0; is-loose = r .1 .0; has-room = r .1 .1 .0 }
 
   pub blocks-fit : bad-blocks (own-sizes s q) (q .part .size) ≡ false
-  blocks-fit = told .0
+  blocks-fit = add-fails s d named q e .1 .1 .0
 
 -- the reservation that it names is there
 pub loose-true : (s : Setup) (d : Desk) (v : ℕ) (q : Request) → add-refusal s d (some v) q ≡ none → has v (d .loose) ≡ true
@@ -131,10 +120,10 @@ same-loose s d c k l n = no-more n (λ v.
     let f = ap (total v) l in omega arith)
 
 change : (s : Setup) (d : Desk) (c : Call) → Change s d (step s d c)
-unfolding step reserved numbered moved removed admitted all-published with-fdt ran fdt-ran toi-for unloosed objects
-change s d Call.reserve = settled (Change s d) (first-of ((7, full d) ∷ [])) d _ (λ n. no-more refl (λ v. omega arith))
-    (λ e. one-more refl (first-none 7 (full d) [] e .0) refl (λ v. let h = reserved-numbers s d v in omega arith))
-change s d (Call.release t) = settled (Change s d) (first-of ((6, not-loose d (some t)) ∷ [])) d _ (λ n. no-more refl (λ v. omega arith)) (λ e. no-more refl (λ v.
+unfolding step reserve-refusal reserved numbered moved touched admitted all-published with-fdt ran fdt-ran toi-for unloosed objects
+change s d Call.reserve = settled (Change s d) (reserve-refusal d) d _ (λ n. no-more refl (λ v. omega arith))
+    (λ e. one-more refl (first-none Because.Full (full d) [] e .0) refl (λ v. let h = reserved-numbers s d v in omega arith))
+change s d (Call.release t) = settled (Change s d) (release-refusal d t) d _ (λ n. no-more refl (λ v. omega arith)) (λ e. no-more refl (λ v.
     let a = total-numbers v (numbered d (d .next) (unloosed t (d .loose))) in
     let b = total-numbers v d in
     let c = total-keep v (λ u. not (eqb u t)) (d .loose) in omega arith))
@@ -142,10 +131,8 @@ change s d (Call.add none q) = settled (Change s d) (add-refusal s d none q) d _
     (λ e. one-more refl (room d none (admissible s d none q e .has-room) .1) refl (λ v. let a = admitted-numbers s (d .next) q (reserved s d) (reserved-has s d) v in let b = reserved-numbers s d v in omega arith))
 change s d (Call.add (some t) q) = settled (Change s d) (add-refusal s d (some t) q) d _ (λ n. no-more refl (λ v. omega arith))
     (λ e. no-more refl (admitted-numbers s t q d (loose-true s d t q e)))
-change s d (Call.remove t) = same-loose s d (Call.remove t) refl refl refl
-change s d (Call.trigger t f) = same-loose s d (Call.trigger t f) refl refl refl
-change s d (Call.listed t) = same-loose s d (Call.listed t) refl refl refl
-change s d (Call.transfers t) = same-loose s d (Call.transfers t) refl refl refl
+change s d (Call.touch t x) = same-loose s d (Call.touch t x) refl refl refl
+change s d (Call.ask q) = same-loose s d (Call.ask q) refl refl refl
 change s d Call.complete = same-loose s d Call.complete refl refl refl
 change s d (Call.publish now c) = same-loose s d (Call.publish now c) refl
     (kept (λ e. e .loose ≡ d .loose) (publish-refusal s (d .fdt) c) d _ refl (λ e. refl)) (kept (λ e. e .next ≡ d .next) (publish-refusal s (d .fdt) c) d _ refl (λ e. refl))
@@ -154,13 +141,13 @@ change s d (Call.run-fdt now draft) =
     same-loose s d (Call.run-fdt now draft) refl
     (kept (λ e. e .loose ≡ d .loose) (draft-refusal s (d .fdt) draft) d _ refl (λ e. either (λ (x : Desk). x .loose ≡ d .loose) t _ _ refl refl))
     (kept (λ e. e .next ≡ d .next) (draft-refusal s (d .fdt) draft) d _ refl (λ e. either (λ (x : Desk). x .next ≡ d .next) t _ _ refl refl))
-change s d (Call.run-file now i) = same-loose s d (Call.run-file now i) refl (loose (at (d .sessions) i)) (next (at (d .sessions) i))
+change s d (Call.run-file i now) = same-loose s d (Call.run-file i now) refl (loose (at (d .sessions) i)) (next (at (d .sessions) i))
   where
-    loose : (x : Option Session) → maybe (Answer.refused 8, d) (ran s now i d) x .1 .loose ≡ d .loose
+    loose : (x : Option Session) → maybe (Answer.refused Because.NoSession, d) (ran s now i d) x .1 .loose ≡ d .loose
     loose none = refl
     loose (some x) = refl
 
-    next : (x : Option Session) → maybe (Answer.refused 8, d) (ran s now i d) x .1 .next ≡ d .next
+    next : (x : Option Session) → maybe (Answer.refused Because.NoSession, d) (ran s now i d) x .1 .next ≡ d .next
     next none = refl
     next (some x) = refl
 
@@ -229,9 +216,9 @@ not-given a t h e = absurd (none≢some (sym h ∙ ap number-in e))
 
 pub given-once : (s : Setup) (d : Desk) (c : Call) (t : ℕ) → Unique s d → step s d c .0 ≡ Answer.number t → Given d c t
 unfolding step toi-for ran fdt-ran
-given-once s d Call.reserve t u = settled (λ r. r .0 ≡ Answer.number t → Given d Call.reserve t) (first-of ((7, full d) ∷ [])) d _
+given-once s d Call.reserve t u = settled (λ r. r .0 ≡ Answer.number t → Given d Call.reserve t) (reserve-refusal d) d _
     (λ n. not-given (Answer.refused n) t refl) (λ x e. next-anew s d Call.reserve t u (cc))
-given-once s d (Call.release v) t u = settled (λ r. r .0 ≡ Answer.number t → Given d (Call.release v) t) (first-of ((6, not-loose d (some v)) ∷ [])) d _
+given-once s d (Call.release v) t u = settled (λ r. r .0 ≡ Answer.number t → Given d (Call.release v) t) (release-refusal d v) d _
     (λ n. not-given (Answer.refused n) t refl) (λ x. not-given Answer.done t refl)
 given-once s d (Call.add none q) t u = settled (λ r. r .0 ≡ Answer.number t → Given d (Call.add none q) t) (add-refusal s d none q) d _
     (λ n. not-given (Answer.refused n) t refl) (λ x e. next-anew s d (Call.add none q) t u (cc))
@@ -240,18 +227,16 @@ given-once s d (Call.add (some v) q) t u = settled (λ r. r .0 ≡ Answer.number
   where
     named : add-refusal s d (some v) q ≡ none → v ≡ t → Given d (Call.add (some v) q) t
     named x e = Given.by-name q (ap (λ w. Call.add (some w) q) e) (subst (λ w. has w (d .loose) ≡ true) e (loose-true s d v q x))
-given-once s d (Call.remove v) t u = not-given _ t refl
-given-once s d (Call.trigger v f) t u = not-given _ t refl
-given-once s d (Call.listed v) t u = not-given _ t refl
-given-once s d (Call.transfers v) t u = not-given _ t refl
+given-once s d (Call.touch v x) t u = not-given _ t refl
+given-once s d (Call.ask q) t u = not-given _ t (plain d q .0)
 given-once s d Call.complete t u = not-given _ t refl
 given-once s d (Call.publish now c) t u = settled (λ r. r .0 ≡ Answer.number t → Given d (Call.publish now c) t) (publish-refusal s (d .fdt) c) d _
     (λ n. not-given (Answer.refused n) t refl) (λ x. not-given Answer.done t refl)
 given-once s d (Call.run-fdt now draft) t u = settled (λ r. r .0 ≡ Answer.number t → Given d (Call.run-fdt now draft) t) (draft-refusal s (d .fdt) draft) d _
     (λ n. not-given (Answer.refused n) t refl) (λ x. not-given _ t refl)
-given-once s d (Call.run-file now i) t u = go (at (d .sessions) i)
+given-once s d (Call.run-file i now) t u = go (at (d .sessions) i)
   where
-    go : (x : Option Session) → maybe (Answer.refused 8, d) (ran s now i d) x .0 ≡ Answer.number t → Given d (Call.run-file now i) t
+    go : (x : Option Session) → maybe (Answer.refused Because.NoSession, d) (ran s now i d) x .0 ≡ Answer.number t → Given d (Call.run-file i now) t
     go none = not-given _ t refl
     go (some x) = not-given _ t refl
 

@@ -8,20 +8,23 @@ use native.Mathlib.Omega.{arith}
 use lib.Dec.{eqb, leb}
 use borrow.Author.Tests.{eqb-true, eqb-false, eq-eqb, ne-eqb, not-true, leb-false, lt-leb}
 use lib.ListN.{length, length-append}
-use Rattle.sizes.specs.Words.{if_then_else_, maybe, keep, at, has, first-of, Each, times, one-if}
+use Rattle.sizes.specs.Words.{if_then_else_, maybe, keep, at, has, Each, times, one-if}
+use Rattle.sizes.specs.declared.refusal.Refusal.the-variants as Because
+use Rattle.sizes.specs.declared.refusal.Refusal.{Refusal}
 use Rattle.lifecycle.specs.Setup.{Setup, sound}
 use Rattle.sizes.specs.Limits.{toi-entries, object-slots}
 use Rattle.definition.specs.FdtSession.{FdtTurn, fdt-published, fdt-run}
 use Rattle.definition.specs.Session.{Session}
-use Rattle.definition.specs.Desk.{Desk, Request, Call, Answer, opening, objects, numbers, moved, numbered, with-fdt, all-published, removed, reserved, toi-for, admitted, not-loose, full, no-room, add-refusal, publish-refusal, draft-refusal, draft-of, Result, unless, ran, step, unloosed, fdt-ran}
-use Rattle.definition.specs.Apart.{owns, about, noted, key, call-by, answer-by, turned-away, calls, smooth, accepted, ends, adds, look, through, tie, claims, reserves, asks-loose, only, Alike, lone, Only, Demand-3}
+use Rattle.definition.specs.Desk.{Desk, Request, Call, Answer, opening, objects, numbers, moved, numbered, with-fdt, all-published, reserved, toi-for, admitted, not-loose, full, no-room, reserve-refusal, release-refusal, add-refusal, publish-refusal, draft-refusal, draft-of, Result, unless, ran, step, unloosed, fdt-ran, Question, touched, answer-to}
+use Rattle.definition.specs.Apart.{owns, about, got-after, key, call-by, answer-by, turned-away, calls, smooth, accepted, ends, adds, look, through, tie, claims, reserves, asks-loose, only, Alike, lone, Only, Demand-3, about-question, question-by, number-in}
 use Rattle.lifecycle.proofs.SetupLaws.{told}
 use Rattle.definition.proofs.Numbers.{Unique, unique-step, tois, times-without, admissible, loose-true}
 use Rattle.definition.proofs.Known.{Known, known-step, known-opening}
-use Rattle.definition.proofs.ApartLaws.{got, add-result, alike, hidden, owns-noted, key-below, any-times, answers-named}
+use Rattle.definition.proofs.ApartLaws.{got, add-result, alike, hidden, owns-noted, key-below, any-times, own-numbers}
 use Rattle.definition.proofs.Alone.{Rel, carried, session-there, fewer-there, slots-there, length-tois, add-there, noted-hidden, rel-hidden, both, rel-shown, rel-opening}
 use Rattle.sizes.proofs.Tests.{Tested, pass, fail, tested, and-left, and-right, or-left, or-right, none≢some}
 use Rattle.sizes.proofs.Lists.{map-append, times-append, has-times, times-has}
+use Rattle.definition.proofs.Refused.{plain}
 
 -- lists of numbers
 eqb-sym : (a b : ℕ) → eqb a b ≡ eqb b a
@@ -155,42 +158,42 @@ abbrev quiet : Call → Bool
 quiet Call.reserve = false
 quiet (Call.release t) = false
 quiet (Call.add named q) = false
-quiet (Call.remove t) = true
-quiet (Call.trigger t f) = true
-quiet (Call.listed t) = true
-quiet (Call.transfers t) = true
+quiet (Call.touch t x) = true
+quiet (Call.ask q) = true
 quiet Call.complete = true
 quiet (Call.publish now c) = true
 quiet (Call.run-fdt now draft) = true
-quiet (Call.run-file now i) = true
+quiet (Call.run-file i now) = true
 
 -- what such a call leaves
 record Quiet (s : Setup) (p : ℕ) (d : Desk) (c : Call) : Type 0 where
   same-loose : step s d c .1 .loose ≡ d .loose
   no-end : (t : ℕ) → ends t c (step s d c .0) ≡ false
   no-tie : (a : Answer) (m : List (ℕ × ℕ)) → tie (step s d c .0) a m ≡ m
-  no-note : (j : List ℕ) → noted p c (step s d c .0) j ≡ j
+  no-note : (j : List ℕ) → got-after p c (step s d c .0) j ≡ j
+
+-- an answer without a number ties nothing
+untied : (a b : Answer) (m : List (ℕ × ℕ)) → number-in a ≡ none → tie a b m ≡ m
+untied a b m h = ap (λ x. maybe m (λ t. maybe m (λ u. (t, u) ∷ m) (number-in b)) x) h
 
 quieted : (s : Setup) (p : ℕ) (d : Desk) (c : Call) → quiet c ≡ true → Quiet s p d c
-unfolding step removed moved with-fdt all-published ran fdt-ran
+unfolding step touched moved with-fdt all-published ran fdt-ran
 quieted s p d Call.reserve e = absurd (false≢true e)
 quieted s p d (Call.release t) e = absurd (false≢true e)
 quieted s p d (Call.add named q) e = absurd (false≢true e)
-quieted s p d (Call.remove t) e = record { same-loose = refl; no-end = λ t. refl; no-tie = λ a m. refl; no-note = λ j. refl }
-quieted s p d (Call.trigger t f) e = record { same-loose = refl; no-end = λ t. refl; no-tie = λ a m. refl; no-note = λ j. refl }
-quieted s p d (Call.listed t) e = record { same-loose = refl; no-end = λ t. refl; no-tie = λ a m. refl; no-note = λ j. refl }
-quieted s p d (Call.transfers t) e = record { same-loose = refl; no-end = λ t. refl; no-tie = λ a m. refl; no-note = λ j. refl }
+quieted s p d (Call.touch t x) e = record { same-loose = refl; no-end = λ t. refl; no-tie = λ a m. refl; no-note = λ j. refl }
+quieted s p d (Call.ask q) e = record { same-loose = refl; no-end = λ t. refl; no-tie = λ a m. untied (answer-to d q) a m (plain d q .0); no-note = λ j. refl }
 quieted s p d Call.complete e = record { same-loose = refl; no-end = λ t. refl; no-tie = λ a m. refl; no-note = λ j. refl }
 quieted s p d (Call.publish now c) e = record { same-loose = go (publish-refusal s (d .fdt) c); no-end = λ t. refl; no-tie = to (publish-refusal s (d .fdt) c); no-note = λ j. refl }
   where
     r : Result
     r = (Answer.done, all-published (with-fdt d (fdt-published now c (d .fdt))))
 
-    go : (x : Option ℕ) → unless x d r .1 .loose ≡ d .loose
+    go : (x : Option Refusal) → unless x d r .1 .loose ≡ d .loose
     go none = refl
     go (some n) = refl
 
-    to : (x : Option ℕ) (a : Answer) (m : List (ℕ × ℕ)) → tie (unless x d r .0) a m ≡ m
+    to : (x : Option Refusal) (a : Answer) (m : List (ℕ × ℕ)) → tie (unless x d r .0) a m ≡ m
     to none a m = refl
     to (some n) a m = refl
 quieted s p d (Call.run-fdt now draft) e = record {
@@ -203,20 +206,20 @@ quieted s p d (Call.run-fdt now draft) e = record {
     result : FdtTurn → Result
     result r = (Answer.fdt-output (r .taken) (r .packet), if r .taken then all-published (with-fdt d (r .fdt)) else with-fdt d (r .fdt))
 
-    go : (x : Option ℕ) (r : FdtTurn) → unless x d (result r) .1 .loose ≡ d .loose
+    go : (x : Option Refusal) (r : FdtTurn) → unless x d (result r) .1 .loose ≡ d .loose
     go none r = elim (r .taken) as (λ b. (if b then all-published (with-fdt d (r .fdt)) else with-fdt d (r .fdt)) .loose ≡ d .loose) [ true ↦ refl | false ↦ refl ]
     go (some n) r = refl
 
-    to : (x : Option ℕ) (r : FdtTurn) (a : Answer) (m : List (ℕ × ℕ)) → tie (unless x d (result r) .0) a m ≡ m
+    to : (x : Option Refusal) (r : FdtTurn) (a : Answer) (m : List (ℕ × ℕ)) → tie (unless x d (result r) .0) a m ≡ m
     to none r a m = refl
     to (some n) r a m = refl
-quieted s p d (Call.run-file now i) e = record { same-loose = go (at (d .sessions) i); no-end = λ t. refl; no-tie = to (at (d .sessions) i); no-note = λ j. refl }
+quieted s p d (Call.run-file i now) e = record { same-loose = go (at (d .sessions) i); no-end = λ t. refl; no-tie = to (at (d .sessions) i); no-note = λ j. refl }
   where
-    go : (x : Option Session) → maybe (Answer.refused 8, d) (ran s now i d) x .1 .loose ≡ d .loose
+    go : (x : Option Session) → maybe (Answer.refused Because.NoSession, d) (ran s now i d) x .1 .loose ≡ d .loose
     go none = refl
     go (some x) = refl
 
-    to : (x : Option Session) (a : Answer) (m : List (ℕ × ℕ)) → tie (maybe (Answer.refused 8, d) (ran s now i d) x .0) a m ≡ m
+    to : (x : Option Session) (a : Answer) (m : List (ℕ × ℕ)) → tie (maybe (Answer.refused Because.NoSession, d) (ran s now i d) x .0) a m ≡ m
     to none a m = refl
     to (some x) a m = refl
 
@@ -224,14 +227,12 @@ quiet-through : (m : List (ℕ × ℕ)) (c : Call) → quiet c ≡ true → quie
 quiet-through m Call.reserve e = e
 quiet-through m (Call.release t) e = e
 quiet-through m (Call.add named q) e = e
-quiet-through m (Call.remove t) e = e
-quiet-through m (Call.trigger t f) e = e
-quiet-through m (Call.listed t) e = e
-quiet-through m (Call.transfers t) e = e
+quiet-through m (Call.touch t x) e = e
+quiet-through m (Call.ask q) e = e
 quiet-through m Call.complete e = e
 quiet-through m (Call.publish now c) e = e
 quiet-through m (Call.run-fdt now draft) e = e
-quiet-through m (Call.run-file now i) e = e
+quiet-through m (Call.run-file i now) e = e
 
 claimed-quiet : (s : Setup) (p : ℕ) (d : Desk) (c : Call) (l : List Call) → Quiet s p d c → claimed s p (step s d c .1) l ≡ claimed s p d (c ∷ l)
 unfolding claims
@@ -263,7 +264,7 @@ reserved-loose : (s : Setup) (d : Desk) → reserved s d .loose ≡ d .loose ++ 
 unfolding reserved numbered
 reserved-loose s d = refl
 
-step-add : (s : Setup) (d : Desk) (named : Option ℕ) (q : Request) (x : Option ℕ) → add-refusal s d named q ≡ x → step s d (Call.add named q) ≡ unless x d (add-result s d named q)
+step-add : (s : Setup) (d : Desk) (named : Option ℕ) (q : Request) (x : Option Refusal) → add-refusal s d named q ≡ x → step s d (Call.add named q) ≡ unless x d (add-result s d named q)
 unfolding step
 step-add s d named q x e = ap (λ y. unless y d (add-result s d named q)) e
 
@@ -271,38 +272,36 @@ step-add s d named q x e = ap (λ y. unless y d (add-result s d named q)) e
 claimed-other : (s : Setup) (p : ℕ) (d : Desk) (c : Call) (l : List Call) → Unique s d → about p d c ≡ false → reserves s p d c l ≡ false
     → claimed s p (step s d c .1) l ≡ claimed s p d (c ∷ l)
 unfolding step about reserves claims numbered toi-for unloosed
-claimed-other s p d Call.reserve l u a h = go (first-of ((7, full d) ∷ [])) h
+claimed-other s p d Call.reserve l u a h = go (reserve-refusal d) h
   where
-    go : (x : Option ℕ) → (accepted (unless x d (Answer.number (d .next), reserved s d) .0) && claims s p (d .next) (unless x d (Answer.number (d .next), reserved s d) .1) l) ≡ false
+    go : (x : Option Refusal) → (accepted (unless x d (Answer.number (d .next), reserved s d) .0) && claims s p (d .next) (unless x d (Answer.number (d .next), reserved s d) .1) l) ≡ false
         → Then s p l (unless x d (Answer.number (d .next), reserved s d)) ≡ Before s p d Call.reserve l (unless x d (Answer.number (d .next), reserved s d))
     go none h = ap (keep (λ t. claims s p t (reserved s d) l)) (reserved-loose s d) ∙ keep-not-last (λ t. claims s p t (reserved s d) l) (d .loose) (d .next) h
     go (some n) h = refl
-claimed-other s p d (Call.release v) l u a h = go (first-of ((6, not-loose d (some v)) ∷ []))
+claimed-other s p d (Call.release v) l u a h = go (release-refusal d v)
   where
     r : Result
     r = (Answer.done, numbered d (d .next) (less v (d .loose)))
 
-    go : (x : Option ℕ) → Then s p l (unless x d r) ≡ Before s p d (Call.release v) l (unless x d r)
+    go : (x : Option Refusal) → Then s p l (unless x d r) ≡ Before s p d (Call.release v) l (unless x d r)
     go none = keep-ended (λ t. claims s p t (r .1) l) v (d .loose)
     go (some n) = refl
 claimed-other s p d (Call.add none q) l u a h = go (add-refusal s d none q)
   where
-    go : (x : Option ℕ) → Then s p l (unless x d (add-result s d none q)) ≡ Before s p d (Call.add none q) l (unless x d (add-result s d none q))
+    go : (x : Option Refusal) → Then s p l (unless x d (add-result s d none q)) ≡ Before s p d (Call.add none q) l (unless x d (add-result s d none q))
     go none = ap (keep (λ t. claims s p t (admitted s (d .next) q (reserved s d)) l)) (admitted-loose s d q u)
     go (some n) = refl
 claimed-other s p d (Call.add (some v) q) l u a h = go (add-refusal s d (some v) q)
   where
-    go : (x : Option ℕ) → Then s p l (unless x d (add-result s d (some v) q)) ≡ Before s p d (Call.add (some v) q) l (unless x d (add-result s d (some v) q))
+    go : (x : Option Refusal) → Then s p l (unless x d (add-result s d (some v) q)) ≡ Before s p d (Call.add (some v) q) l (unless x d (add-result s d (some v) q))
     go none = rw a (ap (keep (λ t. claims s p t (admitted s v q d) l)) (named-loose s d v q) ∙ keep-ended (λ t. claims s p t (admitted s v q d) l) v (d .loose))
     go (some n) = refl
-claimed-other s p d (Call.remove t) l u a h = claimed-quiet s p d (Call.remove t) l (quieted s p d (Call.remove t) refl)
-claimed-other s p d (Call.trigger t f) l u a h = claimed-quiet s p d (Call.trigger t f) l (quieted s p d (Call.trigger t f) refl)
-claimed-other s p d (Call.listed t) l u a h = claimed-quiet s p d (Call.listed t) l (quieted s p d (Call.listed t) refl)
-claimed-other s p d (Call.transfers t) l u a h = claimed-quiet s p d (Call.transfers t) l (quieted s p d (Call.transfers t) refl)
+claimed-other s p d (Call.touch t x) l u a h = claimed-quiet s p d (Call.touch t x) l (quieted s p d (Call.touch t x) refl)
+claimed-other s p d (Call.ask q) l u a h = claimed-quiet s p d (Call.ask q) l (quieted s p d (Call.ask q) refl)
 claimed-other s p d Call.complete l u a h = claimed-quiet s p d Call.complete l (quieted s p d Call.complete refl)
 claimed-other s p d (Call.publish now c) l u a h = claimed-quiet s p d (Call.publish now c) l (quieted s p d (Call.publish now c) refl)
 claimed-other s p d (Call.run-fdt now draft) l u a h = claimed-quiet s p d (Call.run-fdt now draft) l (quieted s p d (Call.run-fdt now draft) refl)
-claimed-other s p d (Call.run-file now i) l u a h = claimed-quiet s p d (Call.run-file now i) l (quieted s p d (Call.run-file now i) refl)
+claimed-other s p d (Call.run-file i now) l u a h = claimed-quiet s p d (Call.run-file i now) l (quieted s p d (Call.run-file i now) refl)
 
 -- the full desk, and the desk on which only these calls were made, with the ties between their numbers
 record RelO (s : Setup) (p : ℕ) (j : List ℕ) (d : Desk) (i : List ℕ) (e : Desk) (m : List (ℕ × ℕ)) (C : List ℕ) : Type 0 where
@@ -341,8 +340,8 @@ loose-once s d u t = let a = times-append t (d .loose) (tois (objects d)) in let
 -- an admitted add of the priority, on both sides
 module _ (s : Setup) (p : ℕ) (j : List ℕ) (d : Desk) (i : List ℕ) (e : Desk) (m : List (ℕ × ℕ)) (l : List Call) (q : Request) (a : eqb (q .priority) p ≡ true) where
   add-none : RelO s p j d i e m (Before s p d (Call.add none q) l (add-result s d none q))
-      → Rel s p (noted p (Call.add none q) (Answer.number (d .next)) j) (add-result s d none q .1) (noted p (Call.add none q) (Answer.number (e .next)) i) (add-result s e none q .1)
-      → RelO s p (noted p (Call.add none q) (Answer.number (d .next)) j) (add-result s d none q .1) (noted p (Call.add none q) (Answer.number (e .next)) i) (add-result s e none q .1)
+      → Rel s p (got-after p (Call.add none q) (Answer.number (d .next)) j) (add-result s d none q .1) (got-after p (Call.add none q) (Answer.number (e .next)) i) (add-result s e none q .1)
+      → RelO s p (got-after p (Call.add none q) (Answer.number (d .next)) j) (add-result s d none q .1) (got-after p (Call.add none q) (Answer.number (e .next)) i) (add-result s e none q .1)
       ((d .next, e .next) ∷ m) (Then s p l (add-result s d none q))
   unfolding toi-for
   add-none o r = record {
@@ -358,8 +357,8 @@ module _ (s : Setup) (p : ℕ) (j : List ℕ) (d : Desk) (i : List ℕ) (e : Des
       same = ap (keep (λ t. claims s p t (admitted s (d .next) q (reserved s d)) l)) (admitted-loose s d q (o .rel .unique))
 
   add-some : (t : ℕ) → has t (d .loose) ≡ true → RelO s p j d i e m (Before s p d (Call.add (some t) q) l (add-result s d (some t) q))
-      → Rel s p (noted p (Call.add (some t) q) (Answer.number t) j) (add-result s d (some t) q .1) (noted p (Call.add (some (look m t)) q) (Answer.number (look m t)) i) (add-result s e (some (look m t)) q .1)
-      → RelO s p (noted p (Call.add (some t) q) (Answer.number t) j) (add-result s d (some t) q .1) (noted p (Call.add (some (look m t)) q) (Answer.number (look m t)) i) (add-result s e (some (look m t)) q .1)
+      → Rel s p (got-after p (Call.add (some t) q) (Answer.number t) j) (add-result s d (some t) q .1) (got-after p (Call.add (some (look m t)) q) (Answer.number (look m t)) i) (add-result s e (some (look m t)) q .1)
+      → RelO s p (got-after p (Call.add (some t) q) (Answer.number t) j) (add-result s d (some t) q .1) (got-after p (Call.add (some (look m t)) q) (Answer.number (look m t)) i) (add-result s e (some (look m t)) q .1)
       ((t, look m t) ∷ m) (Then s p l (add-result s d (some t) q))
   unfolding toi-for
   add-some t z o r = record {
@@ -412,6 +411,18 @@ unowned-there s p j d i e m f t o h = go (tested (owns p e (look m t)))
     go (pass z) = absurd (true≢false (sym (loose-there s p j d i e m f t o h) ∙ owned-not-loose s p e (look m t) (o .rel .unique′) z))
     go (fail z) = z
 
+-- and it has its like there
+same-there : (s : Setup) (p : ℕ) (j : List ℕ) (d : Desk) (i : List ℕ) (e : Desk) (m : List (ℕ × ℕ)) (f : ℕ → Bool) (t : ℕ)
+    → RelO s p j d i e m (keep f (d .loose)) → owns p d t ≡ true → (owns p e (look m t) ≡ true) × (key i (look m t) ≡ key j t)
+same-there s p j d i e m f t o a = let z = owned-tied s p j d i e m f t o a in let y = carried s p j d i e t (o .rel) a in
+    (subst (λ n. owns p e n ≡ true) (sym z) (y .0), ap (key i) z ∙ y .1)
+
+question-there : (s : Setup) (p : ℕ) (j : List ℕ) (d : Desk) (i : List ℕ) (e : Desk) (m : List (ℕ × ℕ)) (f : ℕ → Bool) (q : Question)
+    → RelO s p j d i e m (keep f (d .loose)) → about-question p d q ≡ true
+    → (about-question p e (question-by (look m) q) ≡ true) × (Call.ask (question-by (key i) (question-by (look m) q)) ≡ Call.ask (question-by (key j) q))
+question-there s p j d i e m f (Question.listed t) o a = let z = same-there s p j d i e m f t o a in (z .0, ap (λ n. Call.ask (Question.listed n)) (z .1))
+question-there s p j d i e m f (Question.transfers t) o a = let z = same-there s p j d i e m f t o a in (z .0, ap (λ n. Call.ask (Question.transfers n)) (z .1))
+
 -- a call of the priority and its like there
 like-there : (s : Setup) (p : ℕ) (j : List ℕ) (d : Desk) (i : List ℕ) (e : Desk) (m : List (ℕ × ℕ)) (f : ℕ → Bool) (c : Call)
     → RelO s p j d i e m (keep f (d .loose)) → about p d c ≡ true → (about p e (through m c) ≡ true) × (call-by (key i) (through m c) ≡ call-by (key j) c)
@@ -419,18 +430,12 @@ unfolding about
 like-there s p j d i e m f Call.reserve o a = absurd (false≢true a)
 like-there s p j d i e m f (Call.release t) o a = absurd (false≢true a)
 like-there s p j d i e m f (Call.add named q) o a = (a, refl)
-like-there s p j d i e m f (Call.remove t) o a = let z = owned-tied s p j d i e m f t o a in let y = carried s p j d i e t (o .rel) a in
-    (subst (λ n. owns p e n ≡ true) (sym z) (y .0), ap (λ n. Call.remove (key i n)) z ∙ ap Call.remove (y .1))
-like-there s p j d i e m f (Call.trigger t x) o a = let z = owned-tied s p j d i e m f t o a in let y = carried s p j d i e t (o .rel) a in
-    (subst (λ n. owns p e n ≡ true) (sym z) (y .0), ap (λ n. Call.trigger (key i n) x) z ∙ ap (λ n. Call.trigger n x) (y .1))
-like-there s p j d i e m f (Call.listed t) o a = let z = owned-tied s p j d i e m f t o a in let y = carried s p j d i e t (o .rel) a in
-    (subst (λ n. owns p e n ≡ true) (sym z) (y .0), ap (λ n. Call.listed (key i n)) z ∙ ap Call.listed (y .1))
-like-there s p j d i e m f (Call.transfers t) o a = let z = owned-tied s p j d i e m f t o a in let y = carried s p j d i e t (o .rel) a in
-    (subst (λ n. owns p e n ≡ true) (sym z) (y .0), ap (λ n. Call.transfers (key i n)) z ∙ ap Call.transfers (y .1))
+like-there s p j d i e m f (Call.touch t x) o a = let z = same-there s p j d i e m f t o a in (z .0, ap (λ n. Call.touch n x) (z .1))
+like-there s p j d i e m f (Call.ask q) o a = question-there s p j d i e m f q o a
 like-there s p j d i e m f Call.complete o a = (refl, refl)
 like-there s p j d i e m f (Call.publish now c) o a = (refl, refl)
 like-there s p j d i e m f (Call.run-fdt now draft) o a = (refl, refl)
-like-there s p j d i e m f (Call.run-file now n) o a = (session-there s p j d i e now n (o .rel) a, refl)
+like-there s p j d i e m f (Call.run-file n now) o a = (session-there s p j d i e now n (o .rel) a, refl)
 
 -- no more entries there
 full-there : (s : Setup) (p : ℕ) (j : List ℕ) (d : Desk) (i : List ℕ) (e : Desk) (m : List (ℕ × ℕ)) (f : ℕ → Bool)
@@ -476,14 +481,12 @@ unfolding about
 clear-there s p j d i e m l (Call.add named q) o a h = rw a (add-there s p j d i e named (maybe none (λ t. some (look m t)) named) q (o .rel) (rows-there s p j d i e m l named q a o) (rw a at h))
 clear-there s p j d i e m l Call.reserve o a h = refl
 clear-there s p j d i e m l (Call.release t) o a h = refl
-clear-there s p j d i e m l (Call.remove t) o a h = refl
-clear-there s p j d i e m l (Call.trigger t f) o a h = refl
-clear-there s p j d i e m l (Call.listed t) o a h = refl
-clear-there s p j d i e m l (Call.transfers t) o a h = refl
+clear-there s p j d i e m l (Call.touch t x) o a h = refl
+clear-there s p j d i e m l (Call.ask q) o a h = refl
 clear-there s p j d i e m l Call.complete o a h = refl
 clear-there s p j d i e m l (Call.publish now c) o a h = refl
 clear-there s p j d i e m l (Call.run-fdt now draft) o a h = refl
-clear-there s p j d i e m l (Call.run-file now n) o a h = refl
+clear-there s p j d i e m l (Call.run-file n now) o a h = refl
 
 accepted-by : (f : ℕ → ℕ) (a : Answer) → accepted (answer-by f a) ≡ accepted a
 accepted-by f (Answer.refused n) = refl
@@ -497,25 +500,25 @@ accepted-by f (Answer.output k) = refl
 -- a call that touches no reservation, on both sides
 after-quiet : (s : Setup) (p : ℕ) (j : List ℕ) (d : Desk) (i : List ℕ) (e : Desk) (m : List (ℕ × ℕ)) (l : List Call) (c : Call) → quiet c ≡ true
     → RelO s p j d i e m (claimed s p d (c ∷ l))
-    → Rel s p (noted p c (step s d c .0) j) (step s d c .1) (noted p (through m c) (step s e (through m c) .0) i) (step s e (through m c) .1)
-    → RelO s p (noted p c (step s d c .0) j) (step s d c .1) (noted p (through m c) (step s e (through m c) .0) i) (step s e (through m c) .1)
+    → Rel s p (got-after p c (step s d c .0) j) (step s d c .1) (got-after p (through m c) (step s e (through m c) .0) i) (step s e (through m c) .1)
+    → RelO s p (got-after p c (step s d c .0) j) (step s d c .1) (got-after p (through m c) (step s e (through m c) .0) i) (step s e (through m c) .1)
     (tie (step s d c .0) (step s e (through m c) .0) m) (claimed s p (step s d c .1) l)
 after-quiet s p j d i e m l c k o r =
     let x = quieted s p d c k in
     let y = quieted s p e (through m c) (quiet-through m c k) in
-    relO-move s p j (noted p c (step s d c .0) j) d (step s d c .1) i (noted p (through m c) (step s e (through m c) .0) i) e (step s e (through m c) .1)
+    relO-move s p j (got-after p c (step s d c .0) j) d (step s d c .1) i (got-after p (through m c) (step s e (through m c) .0) i) e (step s e (through m c) .1)
     m (tie (step s d c .0) (step s e (through m c) .0) m) (claimed s p d (c ∷ l)) (claimed s p (step s d c .1) l)
     (x .no-note j) (y .no-note i) (x .no-tie (step s e (through m c) .0) m) (claimed-quiet s p d c l x) (y .same-loose) r o
 
 -- an add of the priority, on both sides
 module _ (s : Setup) (p : ℕ) (j : List ℕ) (d : Desk) (i : List ℕ) (e : Desk) (m : List (ℕ × ℕ)) (l : List Call) (q : Request) (a : eqb (q .priority) p ≡ true) where
   abbrev After : Call → Call → Result → Result → Type 0
-  After c c′ r r′ = RelO s p (noted p c (r .0) j) (r .1) (noted p c′ (r′ .0) i) (r′ .1) (tie (r .0) (r′ .0) m) (Then s p l r)
+  After c c′ r r′ = RelO s p (got-after p c (r .0) j) (r .1) (got-after p c′ (r′ .0) i) (r′ .1) (tie (r .0) (r′ .0) m) (Then s p l r)
 
   abbrev AfterRel : Call → Call → Result → Result → Type 0
-  AfterRel c c′ r r′ = Rel s p (noted p c (r .0) j) (r .1) (noted p c′ (r′ .0) i) (r′ .1)
+  AfterRel c c′ r r′ = Rel s p (got-after p c (r .0) j) (r .1) (got-after p c′ (r′ .0) i) (r′ .1)
 
-  after-add : (named : Option ℕ) (x y : Option ℕ) → add-refusal s d named q ≡ x
+  after-add : (named : Option ℕ) (x y : Option Refusal) → add-refusal s d named q ≡ x
       → accepted (unless x d (add-result s d named q) .0) ≡ accepted (unless y e (add-result s e (maybe none (λ t. some (look m t)) named) q) .0)
       → RelO s p j d i e m (Before s p d (Call.add named q) l (unless x d (add-result s d named q)))
       → AfterRel (Call.add named q) (Call.add (maybe none (λ t. some (look m t)) named) q) (unless x d (add-result s d named q)) (unless y e (add-result s e (maybe none (λ t. some (look m t)) named) q))
@@ -534,26 +537,24 @@ module _ (s : Setup) (p : ℕ) (w : 16 ≤ s .width) where
   -- after a call of the priority, made here and there
   after-shown : (j : List ℕ) (d : Desk) (i : List ℕ) (e : Desk) (m : List (ℕ × ℕ)) (l : List Call) (c : Call)
       → RelO s p j d i e m (claimed s p d (c ∷ l)) → about p d c ≡ true → accepted (step s d c .0) ≡ accepted (step s e (through m c) .0)
-      → Rel s p (noted p c (step s d c .0) j) (step s d c .1) (noted p (through m c) (step s e (through m c) .0) i) (step s e (through m c) .1)
-      → RelO s p (noted p c (step s d c .0) j) (step s d c .1) (noted p (through m c) (step s e (through m c) .0) i) (step s e (through m c) .1)
+      → Rel s p (got-after p c (step s d c .0) j) (step s d c .1) (got-after p (through m c) (step s e (through m c) .0) i) (step s e (through m c) .1)
+      → RelO s p (got-after p c (step s d c .0) j) (step s d c .1) (got-after p (through m c) (step s e (through m c) .0) i) (step s e (through m c) .1)
       (tie (step s d c .0) (step s e (through m c) .0) m) (claimed s p (step s d c .1) l)
   unfolding step claims about
   after-shown j d i e m l (Call.add named q) o a v r =
       after-add s p j d i e m l q a named (add-refusal s d named q) (add-refusal s e (maybe none (λ t. some (look m t)) named) q) refl v o r
   after-shown j d i e m l Call.reserve o a v r = absurd (false≢true a)
   after-shown j d i e m l (Call.release t) o a v r = absurd (false≢true a)
-  after-shown j d i e m l (Call.remove t) o a v r = after-quiet s p j d i e m l (Call.remove t) refl o r
-  after-shown j d i e m l (Call.trigger t f) o a v r = after-quiet s p j d i e m l (Call.trigger t f) refl o r
-  after-shown j d i e m l (Call.listed t) o a v r = after-quiet s p j d i e m l (Call.listed t) refl o r
-  after-shown j d i e m l (Call.transfers t) o a v r = after-quiet s p j d i e m l (Call.transfers t) refl o r
+  after-shown j d i e m l (Call.touch t x) o a v r = after-quiet s p j d i e m l (Call.touch t x) refl o r
+  after-shown j d i e m l (Call.ask q) o a v r = after-quiet s p j d i e m l (Call.ask q) refl o r
   after-shown j d i e m l Call.complete o a v r = after-quiet s p j d i e m l Call.complete refl o r
   after-shown j d i e m l (Call.publish now c) o a v r = after-quiet s p j d i e m l (Call.publish now c) refl o r
   after-shown j d i e m l (Call.run-fdt now draft) o a v r = after-quiet s p j d i e m l (Call.run-fdt now draft) refl o r
-  after-shown j d i e m l (Call.run-file now n) o a v r = after-quiet s p j d i e m l (Call.run-file now n) refl o r
+  after-shown j d i e m l (Call.run-file n now) o a v r = after-quiet s p j d i e m l (Call.run-file n now) refl o r
 
   -- a call there that is not about the priority, and admits nothing, does not show
-  rel-there : (j : List ℕ) (d : Desk) (i : List ℕ) (e : Desk) (c : Call) → Rel s p j d i e → about p e c ≡ false → ((n : ℕ) → noted n c (step s e c .0) [] ≡ [])
-      → Rel s p j d (noted p c (step s e c .0) i) (step s e c .1)
+  rel-there : (j : List ℕ) (d : Desk) (i : List ℕ) (e : Desk) (c : Call) → Rel s p j d i e → about p e c ≡ false → ((n : ℕ) → got-after n c (step s e c .0) [] ≡ [])
+      → Rel s p j d (got-after p c (step s e c .0) i) (step s e c .1)
   rel-there j d i e c r a k = record {
     unique = r .unique;
     known = r .known;
@@ -564,7 +565,7 @@ module _ (s : Setup) (p : ℕ) (w : 16 ≤ s .width) where
   }
 
   -- a reservation of the priority, made here and there
-  reserve-both : (j : List ℕ) (d : Desk) (i : List ℕ) (e : Desk) (m : List (ℕ × ℕ)) (l : List Call) (x y : Option ℕ)
+  reserve-both : (j : List ℕ) (d : Desk) (i : List ℕ) (e : Desk) (m : List (ℕ × ℕ)) (l : List Call) (x y : Option Refusal)
       → (accepted (unless x d (Answer.number (d .next), reserved s d) .0) && claims s p (d .next) (unless x d (Answer.number (d .next), reserved s d) .1) l) ≡ true
       → y ≡ none
       → RelO s p j d i e m (Before s p d Call.reserve l (unless x d (Answer.number (d .next), reserved s d)))
@@ -593,63 +594,64 @@ module _ (s : Setup) (p : ℕ) (w : 16 ≤ s .width) where
       not-old : has (d .next) old ≡ false
       not-old = kept-has (λ t. claims s p t (reserved s d) l) (d .next) (d .loose) (next-not-loose s d (o .rel .unique))
 
-  full-false : (d : Desk) (b : Bool) → accepted (unless (if b then some 7 else none) d (Answer.number (d .next), reserved s d) .0) ≡ true → b ≡ false
+  full-false : (d : Desk) (b : Bool) → accepted (unless (if b then some Because.Full else none) d (Answer.number (d .next), reserved s d) .0) ≡ true → b ≡ false
   full-false d true h = absurd (false≢true h)
   full-false d false h = refl
 
   -- after a call that is made there, and is not about the priority
   abbrev There : List ℕ → Desk → List ℕ → Desk → List (ℕ × ℕ) → List Call → Call → Type 0
-  There j d i e m l c = (RelO s p (noted p c (step s d c .0) j) (step s d c .1) (noted p (through m c) (step s e (through m c) .0) i) (step s e (through m c) .1)
+  There j d i e m l c = (RelO s p (got-after p c (step s d c .0) j) (step s d c .1) (got-after p (through m c) (step s e (through m c) .0) i) (step s e (through m c) .1)
       (tie (step s d c .0) (step s e (through m c) .0) m) (claimed s p (step s d c .1) l))
       × (about p e (through m c) ≡ false) × (turned-away p (through m c) (step s e (through m c) .0) ≡ false)
 
   after-reserve : (j : List ℕ) (d : Desk) (i : List ℕ) (e : Desk) (m : List (ℕ × ℕ)) (l : List Call) (c : Call)
       → RelO s p j d i e m (claimed s p d (c ∷ l)) → about p d c ≡ false → reserves s p d c l ≡ true → There j d i e m l c
-  unfolding reserves about step claims
+  unfolding reserves about step claims reserve-refusal
   after-reserve j d i e m l Call.reserve o a h = (
-    reserve-both j d i e m l (first-of ((7, full d) ∷ [])) (first-of ((7, full e) ∷ [])) h
-        (ap (λ b. if b then some 7 else none) (full-there s p j d i e m (λ t. claims s p t d (Call.reserve ∷ l)) o (full-false d (full d) (and-left _ _ h)))) o
+    reserve-both j d i e m l (reserve-refusal d) (reserve-refusal e) h
+        (ap (λ b. if b then some Because.Full else none) (full-there s p j d i e m (λ t. claims s p t d (Call.reserve ∷ l)) o (full-false d (full d) (and-left _ _ h)))) o
         (rel-there j (step s d Call.reserve .1) i e Call.reserve (rel-hidden s p w j d i e Call.reserve (o .rel) a) refl (λ n. refl)),
     refl,
     refl,
   )
   after-reserve j d i e m l (Call.release t) o a h = absurd (false≢true h)
   after-reserve j d i e m l (Call.add named q) o a h = absurd (false≢true h)
-  after-reserve j d i e m l (Call.remove t) o a h = absurd (false≢true h)
-  after-reserve j d i e m l (Call.trigger t f) o a h = absurd (false≢true h)
-  after-reserve j d i e m l (Call.listed t) o a h = absurd (false≢true h)
-  after-reserve j d i e m l (Call.transfers t) o a h = absurd (false≢true h)
+  after-reserve j d i e m l (Call.touch t x) o a h = absurd (false≢true h)
+  after-reserve j d i e m l (Call.ask q) o a h = absurd (false≢true h)
   after-reserve j d i e m l Call.complete o a h = absurd (false≢true h)
   after-reserve j d i e m l (Call.publish now c) o a h = absurd (false≢true h)
   after-reserve j d i e m l (Call.run-fdt now draft) o a h = absurd (false≢true h)
-  after-reserve j d i e m l (Call.run-file now n) o a h = absurd (false≢true h)
+  after-reserve j d i e m l (Call.run-file n now) o a h = absurd (false≢true h)
 
   -- a call that asks after a reservation of the priority, made here and there
   asked-both : (j : List ℕ) (d : Desk) (i : List ℕ) (e : Desk) (m : List (ℕ × ℕ)) (l : List Call) (c : Call) → quiet c ≡ true
       → RelO s p j d i e m (claimed s p d (c ∷ l)) → about p d c ≡ false → about p e (through m c) ≡ false
-      → RelO s p (noted p c (step s d c .0) j) (step s d c .1) (noted p (through m c) (step s e (through m c) .0) i) (step s e (through m c) .1)
+      → RelO s p (got-after p c (step s d c .0) j) (step s d c .1) (got-after p (through m c) (step s e (through m c) .0) i) (step s e (through m c) .1)
       (tie (step s d c .0) (step s e (through m c) .0) m) (claimed s p (step s d c .1) l)
   asked-both j d i e m l c k o a b = after-quiet s p j d i e m l c k o
-      (rel-there (noted p c (step s d c .0) j) (step s d c .1) i e (through m c) (rel-hidden s p w j d i e c (o .rel) a) b (λ n. quieted s n e (through m c) (quiet-through m c k) .no-note []))
+      (rel-there (got-after p c (step s d c .0) j) (step s d c .1) i e (through m c) (rel-hidden s p w j d i e c (o .rel) a) b (λ n. quieted s n e (through m c) (quiet-through m c k) .no-note []))
+
+  -- a question after a reservation of the priority is about none of its objects there
+  unasked : (j : List ℕ) (d : Desk) (i : List ℕ) (e : Desk) (m : List (ℕ × ℕ)) (l : List Call) (q : Question)
+      → RelO s p j d i e m (claimed s p d (Call.ask q ∷ l)) → asks-loose s p d (Call.ask q) l ≡ true → about-question p e (question-by (look m) q) ≡ false
+  unfolding asks-loose claims step
+  unasked j d i e m l (Question.listed t) o h = unowned-there s p j d i e m (λ u. claims s p u d (Call.ask (Question.listed t) ∷ l)) t o h
+  unasked j d i e m l (Question.transfers t) o h = unowned-there s p j d i e m (λ u. claims s p u d (Call.ask (Question.transfers t) ∷ l)) t o h
 
   after-asked : (j : List ℕ) (d : Desk) (i : List ℕ) (e : Desk) (m : List (ℕ × ℕ)) (l : List Call) (c : Call)
       → RelO s p j d i e m (claimed s p d (c ∷ l)) → about p d c ≡ false → asks-loose s p d c l ≡ true → There j d i e m l c
   unfolding asks-loose about claims
-  after-asked j d i e m l (Call.remove t) o a h = let b = unowned-there s p j d i e m (λ u. claims s p u d (Call.remove t ∷ l)) t o h in
-      (asked-both j d i e m l (Call.remove t) refl o a b, b, refl)
-  after-asked j d i e m l (Call.trigger t f) o a h = let b = unowned-there s p j d i e m (λ u. claims s p u d (Call.trigger t f ∷ l)) t o h in
-      (asked-both j d i e m l (Call.trigger t f) refl o a b, b, refl)
-  after-asked j d i e m l (Call.listed t) o a h = let b = unowned-there s p j d i e m (λ u. claims s p u d (Call.listed t ∷ l)) t o h in
-      (asked-both j d i e m l (Call.listed t) refl o a b, b, refl)
-  after-asked j d i e m l (Call.transfers t) o a h = let b = unowned-there s p j d i e m (λ u. claims s p u d (Call.transfers t ∷ l)) t o h in
-      (asked-both j d i e m l (Call.transfers t) refl o a b, b, refl)
+  after-asked j d i e m l (Call.touch t x) o a h = let b = unowned-there s p j d i e m (λ u. claims s p u d (Call.touch t x ∷ l)) t o h in
+      (asked-both j d i e m l (Call.touch t x) refl o a b, b, refl)
+  after-asked j d i e m l (Call.ask q) o a h = let b = unasked j d i e m l q o h in
+      (asked-both j d i e m l (Call.ask q) refl o a b, b, refl)
   after-asked j d i e m l Call.reserve o a h = absurd (false≢true h)
   after-asked j d i e m l (Call.release t) o a h = absurd (false≢true h)
   after-asked j d i e m l (Call.add named q) o a h = absurd (false≢true h)
   after-asked j d i e m l Call.complete o a h = absurd (false≢true h)
   after-asked j d i e m l (Call.publish now c) o a h = absurd (false≢true h)
   after-asked j d i e m l (Call.run-fdt now draft) o a h = absurd (false≢true h)
-  after-asked j d i e m l (Call.run-file now n) o a h = absurd (false≢true h)
+  after-asked j d i e m l (Call.run-file n now) o a h = absurd (false≢true h)
 
   -- a call of the one kind or the other
   after-there : (j : List ℕ) (d : Desk) (i : List ℕ) (e : Desk) (m : List (ℕ × ℕ)) (l : List Call) (c : Call)
@@ -663,9 +665,9 @@ module _ (s : Setup) (p : ℕ) (w : 16 ≤ s .width) where
   -- any other call is made here only
   after-other : (j : List ℕ) (d : Desk) (i : List ℕ) (e : Desk) (m : List (ℕ × ℕ)) (l : List Call) (c : Call)
       → RelO s p j d i e m (claimed s p d (c ∷ l)) → about p d c ≡ false → reserves s p d c l ≡ false
-      → noted p c (step s d c .0) j ≡ j
-      → RelO s p (noted p c (step s d c .0) j) (step s d c .1) i e m (claimed s p (step s d c .1) l)
-  after-other j d i e m l c o a h n = relO-move s p j (noted p c (step s d c .0) j) d (step s d c .1) i i e e m m (claimed s p d (c ∷ l)) (claimed s p (step s d c .1) l)
+      → got-after p c (step s d c .0) j ≡ j
+      → RelO s p (got-after p c (step s d c .0) j) (step s d c .1) i e m (claimed s p (step s d c .1) l)
+  after-other j d i e m l c o a h n = relO-move s p j (got-after p c (step s d c .0) j) d (step s d c .1) i i e e m m (claimed s p d (c ∷ l)) (claimed s p (step s d c .1) l)
       n refl refl (claimed-other s p d c l (o .rel .unique) a h) refl (rel-hidden s p w j d i e c (o .rel) a) o
 
   abbrev Same : List ℕ → Desk → List ℕ → Desk → List Call → List Call → Type 0
@@ -681,8 +683,8 @@ module _ (s : Setup) (p : ℕ) (w : 16 ≤ s .width) where
       let c′ = through m c in
       let d′ = step s d c .1 in
       let e′ = step s e c′ .1 in
-      let j′ = noted p c (step s d c .0) j in
-      let i′ = noted p c′ (step s e c′ .0) i in
+      let j′ = got-after p c (step s d c .0) j in
+      let i′ = got-after p c′ (step s e c′ .0) i in
       let m′ = tie (step s d c .0) (step s e c′ .0) m in
       let there = only s p m′ d′ e′ l in
       (elim (about p d c) as (λ b. about p d c ≡ b
@@ -713,7 +715,7 @@ module _ (s : Setup) (p : ℕ) (w : 16 ≤ s .width) where
       record { lone-smooth = r .0; same-calls = r .1; same-answers = alike s p w l (lone s p l) h (r .0) (sym (r .1)) }
 
 pub demand-3 : (s : Setup) (p : ℕ) → 16 ≤ s .width → Demand-3 s p
-demand-3 s p w = record { two-runs = alike s p w; only-these-calls = only-these s p w; numbers-got = λ l. answers-named s p [] (opening s) l (known-opening p s) }
+demand-3 s p w = record { two-runs = alike s p w; only-these-calls = only-these s p w; numbers-got = λ l. own-numbers s p [] (opening s) l (known-opening p s) }
 
 pub demand-3-sound : (s : Setup) → sound s ≡ true → (p : ℕ) → Demand-3 s p
 demand-3-sound s h p = demand-3 s p (told s h .width)

@@ -7,9 +7,9 @@ use Rattle.lifecycle.specs.Lifecycle.{started, finished, announced, triggered, 
 use Rattle.lifecycle.specs.Setup.{sound-sizes, bad-blocks, sound}
 use Rattle.lifecycle.specs.Fdt.{fdt-parts, bad-fdt-part, queued, runs-out, needs-new, takes-draft, republished, front-taken, with-current, start-current, next-fdt, fdt-done}
 use Rattle.definition.specs.Encoder.{drained, fill, wrapped, emptied, without, advanced, nothing-left, symbol-of, visit, stopping, read}
-use Rattle.definition.specs.FdtSession.{fdt-published, fdt-send, fdt-attempt, fdt-run}
-use Rattle.definition.specs.Session.{startable, begin, put-back, forced, sent, serve, go-on, take-on, file-run}
-use Rattle.definition.specs.Desk.{opening, set-up, in-hands, objects, numbers, is, listed-in-hands, listed-as, moved, numbered, with-fdt, in-hand, marked, marked-hand, all-published, unlisted, removed, prompted, reserved, unloosed, toi-for, own-sizes, made, admitted, no-session, bad-object-part, not-loose, full, no-room, add-refusal, publish-refusal, draft-of, draft-refusal, fdt-queued, ran, fdt-ran, step, run}
+use Rattle.definition.specs.FdtSession.{fdt-published, fdt-sent, fdt-in-hand-or-next, fdt-round-with, fdt-round, fdt-run}
+use Rattle.definition.specs.Session.{startable, begin, put-back, forced, sent, in-hand-or-next, round-with, round, file-run}
+use Rattle.definition.specs.Desk.{opening, set-up, in-hands, objects, numbers, is, listed-in-hands, listed-as, moved, numbered, with-fdt, in-hand, marked, marked-hand, all-published, reserved, unloosed, toi-for, own-sizes, made, admitted, no-session, bad-object-part, not-loose, full, no-room, reserve-refusal, release-refusal, add-refusal, publish-refusal, draft-of, draft-refusal, fdt-queued, ran, fdt-ran, step, run, touched-waiting, touched-hand, touched}
 
 unfoldable pub opened-sizes : Unit {0}
 unfolding ceil symbols-of split partition-of symbols-in first-symbol block-start block-size fits reach block-length skip-zero cut-to first-toi after free-from next-toi
@@ -24,5 +24,5 @@ unfolding opened-sizes drained fill wrapped emptied without advanced nothing-lef
 opened-encoder = tt
 
 unfoldable pub opened-desk : Unit {0}
-unfolding opened-life opened-encoder fdt-published fdt-send fdt-attempt fdt-run startable begin put-back forced sent serve go-on take-on file-run opening set-up in-hands objects numbers is listed-in-hands listed-as moved numbered with-fdt in-hand marked marked-hand all-published unlisted removed prompted reserved unloosed toi-for own-sizes made admitted no-session bad-object-part not-loose full no-room add-refusal publish-refusal draft-of draft-refusal fdt-queued ran fdt-ran step run
+unfolding opened-life opened-encoder fdt-published fdt-sent fdt-in-hand-or-next fdt-round-with fdt-round fdt-run startable begin put-back forced sent in-hand-or-next round-with round file-run opening set-up in-hands objects numbers is listed-in-hands listed-as moved numbered with-fdt in-hand marked marked-hand all-published touched-waiting touched-hand touched reserved unloosed toi-for own-sizes made admitted no-session bad-object-part not-loose full no-room reserve-refusal release-refusal add-refusal publish-refusal draft-of draft-refusal fdt-queued ran fdt-ran step run
 opened-desk = tt

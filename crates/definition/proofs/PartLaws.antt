@@ -1,16 +1,16 @@
 -- Parts that share no byte, by counting: no byte is in two of them. So the parts of a desk's objects stay apart, and inside the store.
-use mathlib.Core.Path.{_≡_, refl, _∙_, ap, subst}
+use mathlib.Core.Path.{_≡_, refl, _∙_, ap}
 use mathlib.Core.Bool.{Bool, false, _&&_}
-use mathlib.Core.Option.{Option, none, some}
+use mathlib.Core.Option.{Option, none}
 use mathlib.Core.List.{List, [], _∷_, map}
-use Prim.Native.Nat.{ℕ, zero, suc, _+_, _≤_, _<_, min, max}
+use Prim.Native.Nat.{ℕ, _+_, _≤_, _<_, min, max}
 use native.Mathlib.Omega.{arith}
 use lib.Dec.{ltb, leb}
 use borrow.Author.Tests.{ltb-true, ltb-false, leb-true, lt-ltb, le-leb}
-use Rattle.sizes.specs.Words.{any, at, one-if, Each}
+use Rattle.sizes.specs.Words.{any, one-if, Each}
 use Rattle.sizes.specs.Limits.{longest-store}
-use Rattle.sizes.proofs.Tests.{and-left, and-right, or-left, or-right, Tested, pass, fail, tested, none≢some}
-use Rattle.sizes.proofs.Lists.{any-map, each-at}
+use Rattle.sizes.proofs.Tests.{and-left, and-right, or-left, or-right, Tested, pass, fail, tested}
+use Rattle.sizes.proofs.Lists.{any-map}
 use Rattle.lifecycle.specs.Parts.{part-end, shares, past-store}
 use Rattle.lifecycle.specs.declared.parts.Part.{Part}
 use Rattle.lifecycle.specs.Setup.{Setup}
@@ -62,13 +62,6 @@ two-apart a b h = go (tested (shares a b))
         let y = cover-in n b (omega arith) (omega arith) in
         let z = h n in omega arith)
 
--- whichever stands first
-pub shares-comm : (a b : Part) → shares a b ≡ shares b a
-unfolding shares
-shares-comm a b =
-    let x : max (a .start) (b .start) ≡ max (b .start) (a .start) = omega arith in
-    let y : min (part-end a) (part-end b) ≡ min (part-end b) (part-end a) = omega arith in λ i. ltb (x i) (y i)
-
 -- ---- lists of parts
 
 -- with one part of which a byte is in it, the rest have it not
@@ -102,14 +95,6 @@ none-passes ok (a ∷ l) e = (or-left (ok a) (any ok l) e, none-passes ok l (or-
 -- one more part that shares no byte with them
 pub one-cover : (c : Part) (l : List Part) → any (shares c) l ≡ false → Apart-all l → (n : ℕ) → total (cover n) l + cover n c ≤ 1
 one-cover c l e u n = let h = apart-cover (c ∷ l) (none-passes (shares c) l e, u) n in omega arith
-
--- so no two at different places do
-pub apart-at : (l : List Part) → Apart-all l → (i j : ℕ) (a b : Part) → (i ≡ j → ⊥) → at l i ≡ some a → at l j ≡ some b → shares a b ≡ false
-apart-at [] u i j a b k e f = absurd (none≢some e)
-apart-at (c ∷ l) u zero zero a b k e f = absurd (k refl)
-apart-at (c ∷ l) u zero (suc j) a b k e f = let s : c ≡ a = cc in subst (λ x. shares x b ≡ false) s (each-at (λ b. shares c b ≡ false) l j b f (u .0))
-apart-at (c ∷ l) u (suc i) zero a b k e f = let s : c ≡ b = cc in shares-comm a b ∙ subst (λ x. shares x a ≡ false) s (each-at (λ b. shares c b ≡ false) l i a e (u .0))
-apart-at (c ∷ l) u (suc i) (suc j) a b k e f = apart-at l (u .1) i j a b (λ z. k (ap suc z)) e f
 
 -- ---- the parts of objects
 

@@ -1,6 +1,6 @@
 -- A run needs no third round, and a read no more visits: a transfer that has just begun has a symbol to send.
 use mathlib.Core.Path.{_≡_, refl, sym, _∙_, ap, subst}
-use mathlib.Core.Bool.{Bool, true, false, not, _&&_, _||_, false≢true}
+use mathlib.Core.Bool.{Bool, true, false, not, _&&_, _||_, false≢true, true≢false}
 use mathlib.Core.Option.{Option, none, some}
 use mathlib.Core.List.{List, [], _∷_, _++_}
 use mathlib.Core.Logic.{inr, ⊎-elim}
@@ -18,11 +18,13 @@ use Rattle.sizes.proofs.PartitionLaws.{parted, empty-exactly}
 use Rattle.sizes.proofs.Tests.{none≢some}
 use Rattle.lifecycle.specs.declared.parts.Part.{Part}
 use Rattle.lifecycle.specs.Lifecycle.{Target, pace-of, too-early, may-stop, started, is-last}
-use Rattle.lifecycle.specs.Fdt.{Instance, Next, next-fdt, fdt-done}
+use Rattle.lifecycle.specs.Fdt.{Instance, Next, next-fdt, fdt-done, FdtState}
 use Rattle.definition.specs.Encoder.{Open, Encoder, Symbol, fresh, opened, drained, fill, wrapped, emptied, without, advanced, symbol-of, visit, stopping, read}
-use Rattle.definition.specs.FdtSession.{Fdt, FdtTurn, FdtHand, fdt-send, fdt-attempt, fdt-idle, fdt-run}
-use Rattle.definition.specs.Session.{begin, put-back, forced, sent, serve}
-use Rattle.definition.specs.Promises.{read-longer, VisitsEnough, FirstRead, NoThird, FdtNoThird, fdt-rounds, fdt-loop, FdtRoundsEnough}
+use Rattle.definition.specs.FdtSession.{Fdt, FdtTurn, FdtHand, fdt-run, FdtRound, fdt-sent, fdt-begun, fdt-in-hand-or-next, fdt-round-with, fdt-round, last-fdt-round}
+use Rattle.definition.specs.Session.{begin, put-back, forced, sent, round-with, idle, Round}
+use Rattle.lifecycle.specs.Setup.{Setup}
+use Rattle.definition.specs.Promises.{read-longer, VisitsEnough, FirstRead, NoThird, FdtNoThird, fdt-rounds, FdtRoundsEnough, goes-again, fdt-goes-again}
+use Rattle.definition.proofs.Runs.{reads}
 
 -- every block of a partition has a symbol
 abbrev pub Filled : Partition → Type 0
@@ -87,77 +89,69 @@ listed-unforced : (b : Bool) → (b && not true) ≡ false
 listed-unforced true = refl
 listed-unforced false = refl
 
--- so an object that has just been taken is served whatever would come after
+-- so an object that has just been taken does not end its transfer
 pub no-third : NoThird
-unfolding serve begin forced
-no-third s now again again′ q o h k g =
-    rw (on-time (o .plan .target) now (o .part .size) (o .sizes .e), listed-unforced (may-stop (o .plan) (started (o .plan) now (o .life))))
-    (go (read (s .window) (o .part) (o .sizes) false (fresh (is-last (o .plan) (started (o .plan) now (o .life)))) .0)
-    (first-read (s .window) (o .part) (o .sizes) (is-last (o .plan) (started (o .plan) now (o .life))) h k g))
+unfolding round-with begin forced
+no-third s now b q o h k g = go b (too-early now (begin now o .pace)) (reads s (begin now o) .0) (on-time (o .plan .target) now (o .part .size) (o .sizes .e))
+    (rw (listed-unforced (may-stop (o .plan) (started (o .plan) now (o .life)))) (first-read (s .window) (o .part) (o .sizes) (is-last (o .plan) (started (o .plan) now (o .life))) h k g))
   where
-    x : Encoder
-    x = read (s .window) (o .part) (o .sizes) false (fresh (is-last (o .plan) (started (o .plan) now (o .life)))) .1
+    go : (b early : Bool) (y : Option Symbol) → early ≡ false → given y ≡ true
+        → goes-again (if b then Round.over (idle q (some (begin now o))) else if early then Round.over (idle q (some (begin now o)))
+        else elim y [ none ↦ Round.again (put-back now (begin now o) q) | some y ↦ Round.over (sent q (begin now o) (reads s (begin now o) .1) y) ]) ≡ false
+    go true early y a e = refl
+    go false true y a e = absurd (true≢false a)
+    go false false none a e = absurd (false≢true e)
+    go false false (some y) a e = refl
 
-    go : (y : Option Symbol) → given y ≡ true → maybe (again (put-back now (begin now o) q)) (sent q (begin now o) x) y ≡ maybe (again′ (put-back now (begin now o) q)) (sent q (begin now o) x) y
-    go none e = absurd (false≢true e)
-    go (some y) e = refl
-
--- the same of the FDT session
+-- nor does an FDT that has just been asked for
 pub fdt-no-third : FdtNoThird
-unfolding fdt-attempt fdt-send
-fdt-no-third s now draft again again′ taken f h k g e = rw e (go (n .starts))
+unfolding fdt-round fdt-in-hand-or-next fdt-round-with
+fdt-no-third s now draft taken f h k g e = rw e (go (n .starts))
   where
     n : Next
     n = next-fdt s now (if taken then none else draft) (f .state)
 
-    begins : Option Instance → Option FdtHand
-    begins = maybe none (λ (i : Instance). some record { id = i .id; part = i .part; encoder = fresh false })
-
-    go : (x : Option Instance)
-        → fdt-send s now (taken || n .taken) again (record { state = n .state; hand = begins x })
-        ≡ fdt-send s now (taken || n .taken) again′ (record { state = n .state; hand = begins x })
+    go : (x : Option Instance) → fdt-goes-again (fdt-round-with s now (taken || n .taken) (n .state) (fdt-begun x)) ≡ false
     go none = refl
     go (some i) = read-one (read (s .window) (i .part) (s .sizes) false (fresh false) .0) (first-read (s .window) (i .part) (s .sizes) false h k g)
       where
-        done-state : Fdt
-        done-state = record { state = fdt-done now (n .state); hand = none }
+        begun : FdtHand
+        begun = record { id = i .id; part = i .part; encoder = fresh false }
 
-        out : Symbol → FdtTurn
-        out y = record {
-          taken = taken || n .taken;
-          packet = some record { id = some (i .id); toi = 0; symbol = y };
-          fdt = record { state = n .state; hand = some record { id = i .id; part = i .part; encoder = read (s .window) (i .part) (s .sizes) false (fresh false) .1 } };
-        }
-
-        read-one : (y : Option Symbol) → given y ≡ true → maybe (again (taken || n .taken) done-state) out y ≡ maybe (again′ (taken || n .taken) done-state) out y
+        read-one : (y : Option Symbol) → given y ≡ true
+            → fdt-goes-again (elim y [ none ↦ FdtRound.again (taken || n .taken) (record { state = fdt-done now (n .state); hand = none }) | some y ↦ FdtRound.over (fdt-sent (taken || n .taken) (n .state) begun (read (s .window) (i .part) (s .sizes) false (fresh false) .1) y) ]) ≡ false
         read-one none e = absurd (false≢true e)
         read-one (some y) e = refl
 
+-- a round that is the last comes to the same, whatever would come after
+fdt-ended : (r : FdtRound) (k : Bool → Fdt → FdtTurn) → fdt-goes-again r ≡ false → _≡_ {A = FdtTurn} (elim r [ FdtRound.over t ↦ t | FdtRound.again taken f ↦ k taken f ]) (last-fdt-round r)
+fdt-ended (FdtRound.over t) k e = refl
+fdt-ended (FdtRound.again taken f) k e = absurd (true≢false e)
+
+-- nothing is in hand where the session goes round again
+abbrev Released : FdtRound → Type 0
+Released (FdtRound.over t) = Unit {0}
+Released (FdtRound.again taken f) = f .hand ≡ none
+
+released : (s : Setup) (now : ℕ) (taken : Bool) (f : FdtState) (h : Option FdtHand) → Released (fdt-round-with s now taken f h)
+unfolding fdt-round-with
+released s now taken f none = tt
+released s now taken f (some h) = go (read (s .window) (h .part) (s .sizes) false (h .encoder) .0)
+  where
+    go : (y : Option Symbol) → Released (elim y [ none ↦ FdtRound.again taken (record { state = fdt-done now f; hand = none }) | some y ↦ FdtRound.over (fdt-sent taken f h (read (s .window) (h .part) (s .sizes) false (h .encoder) .1) y) ])
+    go none = refl
+    go (some y) = tt
+
 -- so with more rounds its run comes to the same
 pub fdt-rounds-enough : FdtRoundsEnough
-unfolding fdt-loop fdt-rounds fdt-run fdt-attempt fdt-send
-fdt-rounds-enough n s now draft f h k g = go (f .hand) refl
+unfolding fdt-rounds fdt-run fdt-round
+fdt-rounds-enough n s now draft f h k g = go (fdt-round s now draft false f) (let t = fdt-in-hand-or-next s now draft false f in released s now (t .0) (t .1 .state) (t .1 .hand))
   where
-    later : Bool → Fdt → FdtTurn
-    later = fdt-rounds s now draft (suc n)
-
-    sooner : Bool → Fdt → FdtTurn
-    sooner = fdt-attempt s now draft fdt-idle
-
-    go : (x : Option FdtHand) → f .hand ≡ x → fdt-attempt s now draft later false f ≡ fdt-attempt s now draft sooner false f
-    go none e = fdt-no-third s now draft later sooner false f h k g e
-    go (some x) e = rw e (elim (read (s .window) (x .part) (s .sizes) false (x .encoder) .0)
-        as (λ (y : Option Symbol). maybe (later false (record { state = fdt-done now (f .state); hand = none })) (out x) y ≡ maybe (sooner false (record { state = fdt-done now (f .state); hand = none })) (out x) y) [
-          | none ↦ fdt-no-third s now draft (fdt-rounds s now draft n) fdt-idle false (record { state = fdt-done now (f .state); hand = none }) h k g refl
-          | some y ↦ refl
-        ])
-      where
-        out : FdtHand → Symbol → FdtTurn
-        out x y = record {
-          taken = false;
-          packet = some record { id = some (x .id); toi = 0; symbol = y };
-          fdt = record { state = f .state; hand = some record { id = x .id; part = x .part; encoder = read (s .window) (x .part) (s .sizes) false (x .encoder) .1 } };
-        }
+    go : (r : FdtRound) → Released r
+        → _≡_ {A = FdtTurn} (elim r [ FdtRound.over t ↦ t | FdtRound.again taken f′ ↦ fdt-rounds (suc n) s now draft taken f′ ])
+        (elim r [ FdtRound.over t ↦ t | FdtRound.again taken f′ ↦ last-fdt-round (fdt-round s now draft taken f′) ])
+    go (FdtRound.over t) e = refl
+    go (FdtRound.again taken f′) e = fdt-ended (fdt-round s now draft taken f′) (fdt-rounds n s now draft) (fdt-no-third s now draft taken f′ h k g e)
 
 -- how many open blocks are drained
 module _ (p : Partition) where

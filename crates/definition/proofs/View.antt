@@ -5,15 +5,17 @@ use mathlib.Core.Option.{Option, none, some}
 use mathlib.Core.List.{List, [], _∷_, _++_, map}
 use Prim.Native.Nat.{ℕ}
 use lib.Dec.{eqb}
-use Rattle.sizes.specs.Words.{if_then_else_, maybe, keep, find, drop-first}
-use Rattle.definition.specs.Encoder.{Symbol, read}
+use Rattle.sizes.specs.Words.{if_then_else_, find, drop-first}
+use Rattle.sizes.specs.Words.{over as perhaps}
+use Rattle.definition.specs.Encoder.{Symbol}
 use Rattle.lifecycle.specs.Lifecycle.{too-early, expired, finished, may-start}
 use Rattle.lifecycle.specs.Setup.{Setup}
-use Rattle.definition.specs.Session.{Object, Hand, Session, living, startable, begin, put-back, forced, Turn, idle, sent, serve, go-on, take-on, file-run}
+use Rattle.definition.specs.Session.{Object, Hand, Session, living, startable, begin, put-back, forced, Turn, idle, sent, file-run, Round, over, again, in-hand-or-next, round-with, round, last-round}
 use Rattle.definition.specs.Apart.{mine, packet-by}
-use Rattle.sizes.specs.Words.{over, Each}
+use Rattle.sizes.specs.Words.{Each}
 use Rattle.sizes.proofs.Tests.{and-left}
 use Rattle.sizes.proofs.Lists.{found}
+use Rattle.definition.proofs.Runs.{reads}
 
 -- the object under another number
 abbrev pub retag : (ℕ → ℕ) → Object → Object
@@ -35,7 +37,7 @@ module _ (p : ℕ) (f : ℕ → ℕ) where
 
   -- a session: another priority's is empty
   abbrev pub see : Session → Session
-  see x = record { priority = x .priority; hand = if eqb (x .priority) p then over (retag-held f) (x .hand) else none }
+  see x = record { priority = x .priority; hand = if eqb (x .priority) p then perhaps (retag-held f) (x .hand) else none }
 
   pub seen-append : (a b : List Object) → seen (a ++ b) ≡ seen a ++ seen b
   seen-append [] b = refl
@@ -52,12 +54,12 @@ module _ (p : ℕ) (f : ℕ → ℕ) where
   abbrev pub Alike : (Object → Bool) → (Object → Bool) → Object → Type 0
   Alike ok ok′ o = (mine p o ≡ true → ok′ (retag f o) ≡ ok o) × (ok o ≡ true → mine p o ≡ true)
 
-  pub seen-find : (ok ok′ : Object → Bool) (q : List Object) → Each (Alike ok ok′) q → find ok′ (seen q) ≡ over (retag f) (find ok q)
+  pub seen-find : (ok ok′ : Object → Bool) (q : List Object) → Each (Alike ok ok′) q → find ok′ (seen q) ≡ perhaps (retag f) (find ok q)
   seen-find ok ok′ [] u = refl
-  seen-find ok ok′ (o ∷ q) u = (elim (mine p o) as (λ t. mine p o ≡ t → find ok′ (if t then retag f o ∷ seen q else seen q) ≡ over (retag f) (if ok o then some o else find ok q)) [
-    | true ↦ λ e. rw (u .0 .0 e) (elim (ok o) as (λ b. (if b then some (retag f o) else find ok′ (seen q)) ≡ over (retag f) (if b then some o else find ok q))
+  seen-find ok ok′ (o ∷ q) u = (elim (mine p o) as (λ t. mine p o ≡ t → find ok′ (if t then retag f o ∷ seen q else seen q) ≡ perhaps (retag f) (if ok o then some o else find ok q)) [
+    | true ↦ λ e. rw (u .0 .0 e) (elim (ok o) as (λ b. (if b then some (retag f o) else find ok′ (seen q)) ≡ perhaps (retag f) (if b then some o else find ok q))
         [ true ↦ refl | false ↦ seen-find ok ok′ q (u .1) ])
-    | false ↦ λ e. (elim (ok o) as (λ b. ok o ≡ b → find ok′ (seen q) ≡ over (retag f) (if b then some o else find ok q))
+    | false ↦ λ e. (elim (ok o) as (λ b. ok o ≡ b → find ok′ (seen q) ≡ perhaps (retag f) (if b then some o else find ok q))
         [ true ↦ λ k. absurd (true≢false (sym (u .0 .1 k) ∙ e)) | false ↦ λ k. seen-find ok ok′ q (u .1) ]) refl
   ]) refl
 
@@ -77,33 +79,9 @@ module _ (p : ℕ) (f : ℕ → ℕ) where
   seen-map g g′ (o ∷ q) u = rw (u .0 .0) ((elim (mine p o) as (λ t. mine p o ≡ t → (if t then retag f (g o) ∷ seen (map g q) else seen (map g q)) ≡ map g′ (if t then retag f o ∷ seen q else seen q))
       [ true ↦ λ e. (λ i. u .0 .1 e i ∷ seen-map g g′ q (u .1) i) | false ↦ λ e. seen-map g g′ q (u .1) ]) refl)
 
-  pub seen-keep : (ok ok′ : Object → Bool) (q : List Object) → Each (λ o. mine p o ≡ true → ok′ (retag f o) ≡ ok o) q
-      → seen (keep ok q) ≡ keep ok′ (seen q)
-  seen-keep ok ok′ [] u = refl
-  seen-keep ok ok′ (o ∷ q) u = (elim (mine p o) as (λ t. mine p o ≡ t → seen (if ok o then o ∷ keep ok q else keep ok q) ≡ keep ok′ (if t then retag f o ∷ seen q else seen q)) [
-    | true ↦ λ e. rw (u .0 e) (elim (ok o) as (λ b. seen (if b then o ∷ keep ok q else keep ok q) ≡ (if b then retag f o ∷ keep ok′ (seen q) else keep ok′ (seen q)))
-        [ true ↦ rw e (ap (λ l. retag f o ∷ l) (seen-keep ok ok′ q (u .1))) | false ↦ seen-keep ok ok′ q (u .1) ])
-    | false ↦ λ e. elim (ok o) as (λ b. seen (if b then o ∷ keep ok q else keep ok q) ≡ keep ok′ (seen q))
-        [ true ↦ rw e (seen-keep ok ok′ q (u .1)) | false ↦ seen-keep ok ok′ q (u .1) ]
-  ]) refl
-
-  -- what is seen does not change where the priority's objects stay
-  pub seen-kept : (ok : Object → Bool) (q : List Object) → Each (λ o. mine p o ≡ true → ok o ≡ true) q → seen (keep ok q) ≡ seen q
-  seen-kept ok [] u = refl
-  seen-kept ok (o ∷ q) u = (elim (mine p o) as (λ t. mine p o ≡ t → seen (if ok o then o ∷ keep ok q else keep ok q) ≡ (if t then retag f o ∷ seen q else seen q)) [
-    | true ↦ λ e. rw (u .0 e) (rw e (ap (λ l. retag f o ∷ l) (seen-kept ok q (u .1))))
-    | false ↦ λ e. elim (ok o) as (λ b. seen (if b then o ∷ keep ok q else keep ok q) ≡ seen q)
-        [ true ↦ rw e (seen-kept ok q (u .1)) | false ↦ seen-kept ok q (u .1) ]
-  ]) refl
-
-  pub seen-unmoved : (g : Object → Object) (q : List Object) → Each (λ o. (mine p (g o) ≡ mine p o) × (mine p o ≡ true → g o ≡ o)) q → seen (map g q) ≡ seen q
-  seen-unmoved g [] u = refl
-  seen-unmoved g (o ∷ q) u = rw (u .0 .0) ((elim (mine p o) as (λ t. mine p o ≡ t → (if t then retag f (g o) ∷ seen (map g q) else seen (map g q)) ≡ (if t then retag f o ∷ seen q else seen q))
-      [ true ↦ λ e. (λ i. retag f (u .0 .1 e i) ∷ seen-unmoved g q (u .1) i) | false ↦ λ e. seen-unmoved g q (u .1) ]) refl)
-
   -- a turn as it is seen
   abbrev pub see-turn : Turn → Turn
-  see-turn r = record { packet = over (packet-by f) (r .packet); queue = seen (r .queue); hand = over (retag-held f) (r .hand) }
+  see-turn r = record { packet = perhaps (packet-by f) (r .packet); queue = seen (r .queue); hand = perhaps (retag-held f) (r .hand) }
 
   startable-alike : (now : ℕ) (q : List Object) → Each (Alike (startable p now) (startable p now)) q
   unfolding startable
@@ -117,39 +95,57 @@ module _ (p : ℕ) (f : ℕ → ℕ) where
       elim (h .listed && not (expired (o .plan) (o .life))) as (λ t. (if t then seen q ++ (retag f o ∷ []) else seen q) ≡ seen (if t then q ++ (o ∷ []) else q))
       [ true ↦ sym (seen-append q (o ∷ []) ∙ ap (λ l. seen q ++ l) (seen-mine o e)) | false ↦ refl ]
 
-  module _ (s : Setup) (now : ℕ) (again again′ : List Object → Turn) (h-again : (q : List Object) → again′ (seen q) ≡ see-turn (again q)) where
-    serve-seen : (q : List Object) (h : Hand) → mine p (h .object) ≡ true → serve s now again′ (seen q) (retag-held f h) ≡ see-turn (serve s now again q h)
-    unfolding serve sent forced
-    serve-seen q h e = elim (too-early now (h .pace))
-        as (λ t. (if t then idle (seen q) (some (retag-held f h)) else maybe (again′ (put-back now (retag-held f h) (seen q))) (sent (seen q) (retag-held f h) (read (s .window) (h .object .part) (h .object .sizes) (forced h) (h .encoder) .1)) (read (s .window) (h .object .part) (h .object .sizes) (forced h) (h .encoder) .0))
-        ≡ see-turn (if t then idle q (some h) else maybe (again (put-back now h q)) (sent q h (read (s .window) (h .object .part) (h .object .sizes) (forced h) (h .encoder) .1)) (read (s .window) (h .object .part) (h .object .sizes) (forced h) (h .encoder) .0))) [
-          | true ↦ refl
-          | false ↦ elim (read (s .window) (h .object .part) (h .object .sizes) (forced h) (h .encoder) .0)
-              as (λ (y : Option Symbol). maybe (again′ (put-back now (retag-held f h) (seen q))) (sent (seen q) (retag-held f h) (read (s .window) (h .object .part) (h .object .sizes) (forced h) (h .encoder) .1)) y
-              ≡ see-turn (maybe (again (put-back now h q)) (sent q h (read (s .window) (h .object .part) (h .object .sizes) (forced h) (h .encoder) .1)) y))
-              [ none ↦ ap again′ (back-seen now h q e) ∙ h-again (put-back now h q) | some y ↦ refl ]
-        ]
+  abbrev see-round : Round → Round
+  see-round (over t) = over (see-turn t)
+  see-round (again q) = again (seen q)
 
-    go-on-seen : (b : Bool) (q : List Object) (h : Hand) → mine p (h .object) ≡ true → go-on s now b again′ (seen q) (retag-held f h) ≡ see-turn (go-on s now b again q h)
-    unfolding go-on
-    go-on-seen true q h e = refl
-    go-on-seen false q h e = serve-seen q h e
-
-    take-on-seen : (b : Bool) (q : List Object) → take-on s p now b again′ (seen q) ≡ see-turn (take-on s p now b again q)
-    unfolding take-on begin startable
-    take-on-seen b q =
-        rw (seen-find (startable p now) (startable p now) q (startable-alike now q), seen-drop (startable p now) (startable p now) q (startable-alike now q)) (go (find (startable p now) q) refl)
+  module _ (s : Setup) (now : ℕ) (b : Bool) where
+    with-seen : (q : List Object) (h : Hand) → mine p (h .object) ≡ true → round-with s now b (seen q) (retag-held f h) ≡ see-round (round-with s now b q h)
+    unfolding round-with sent forced
+    with-seen q h e = go b (too-early now (h .pace)) (reads s h .0)
       where
-        go : (x : Option Object) → find (startable p now) q ≡ x
-            → maybe (idle (seen q) none) (λ o. go-on s now b again′ (seen (drop-first (startable p now) q)) (begin now o)) (over (retag f) x)
-            ≡ see-turn (maybe (idle q none) (λ o. go-on s now b again (drop-first (startable p now) q) (begin now o)) x)
+        go : (b early : Bool) (y : Option Symbol)
+            → (if b then over (idle (seen q) (some (retag-held f h))) else if early then over (idle (seen q) (some (retag-held f h)))
+            else elim y [ none ↦ again (put-back now (retag-held f h) (seen q)) | some y ↦ over (sent (seen q) (retag-held f h) (reads s h .1) y) ])
+            ≡ see-round (if b then over (idle q (some h)) else if early then over (idle q (some h)) else elim y [ none ↦ again (put-back now h q) | some y ↦ over (sent q h (reads s h .1) y) ])
+        go true early y = refl
+        go false true y = refl
+        go false false none = ap again (back-seen now h q e)
+        go false false (some y) = refl
+
+    round-seen : (q : List Object) (h : Option Hand) → Sends p h → round s p now b (seen q) (perhaps (retag-held f) h) ≡ see-round (round s p now b q h)
+    unfolding round in-hand-or-next begin startable
+    round-seen q (some h) u = with-seen q h u
+    round-seen q none u =
+        (λ i. goes (seen q) (seen-drop (startable p now) (startable p now) q (startable-alike now q) i) (seen-find (startable p now) (startable p now) q (startable-alike now q) i)) ∙ go (find (startable p now) q) refl
+      where
+        next : List Object → List Object → Option Object → Option Hand × List Object
+        next q rest x = elim x [ none ↦ (none, q) | some o ↦ (some (begin now o), rest) ]
+
+        goes : List Object → List Object → Option Object → Round
+        goes q rest x = elim (next q rest x .0) [ none ↦ over (idle (next q rest x .1) none) | some h ↦ round-with s now b (next q rest x .1) h ]
+
+        rest : List Object
+        rest = drop-first (startable p now) q
+
+        go : (x : Option Object) → find (startable p now) q ≡ x → goes (seen q) (seen rest) (perhaps (retag f) x) ≡ see-round (goes q rest x)
         go none e = refl
-        go (some o) e = go-on-seen b (drop-first (startable p now) q) (begin now o) (and-left (eqb (o .priority) p) (may-start (o .plan) now (o .life)) (found (startable p now) q o e))
+        go (some o) e = with-seen rest (begin now o) (and-left (eqb (o .priority) p) (may-start (o .plan) now (o .life)) (found (startable p now) q o e))
+
+    last-seen : (r : Round) → last-round (see-round r) ≡ see-turn (last-round r)
+    last-seen (over t) = refl
+    last-seen (again q) = refl
 
   -- a file session's run, as its priority sees it
   pub file-run-seen : (s : Setup) (now : ℕ) (b : Bool) (q : List Object) (h : Option Hand) → Sends p h
-      → file-run s p now b (seen q) (over (retag-held f) h) ≡ see-turn (file-run s p now b q h)
+      → file-run s p now b (seen q) (perhaps (retag-held f) h) ≡ see-turn (file-run s p now b q h)
   unfolding file-run
-  file-run-seen s now b q none u = take-on-seen s now (λ q′. idle q′ none) (λ q′. idle q′ none) (λ q′. refl) b q
-  file-run-seen s now b q (some h) u = go-on-seen s now (take-on s p now b (λ q′. idle q′ none)) (take-on s p now b (λ q′. idle q′ none))
-      (λ q′. take-on-seen s now (λ q″. idle q″ none) (λ q″. idle q″ none) (λ q″. refl) b q′) b q h u
+  file-run-seen s now b q none u = ap last-round (round-seen s now b q none u) ∙ last-seen s now b (round s p now b q none)
+  file-run-seen s now b q (some h) u = ap second (round-seen s now b q (some h) u) ∙ go (round s p now b q (some h))
+    where
+      second : Round → Turn
+      second r = elim r [ over t ↦ t | again q′ ↦ last-round (round s p now b q′ none) ]
+
+      go : (r : Round) → second (see-round r) ≡ see-turn (second r)
+      go (over t) = refl
+      go (again q′) = ap last-round (round-seen s now b q′ none tt) ∙ last-seen s now b (round s p now b q′ none)

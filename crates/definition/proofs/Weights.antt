@@ -1,5 +1,5 @@
 -- Sums over the objects of a desk: for any weight that does not read an object's life, no call but an add makes the sum larger.
-use mathlib.Core.Path.{_≡_, refl, sym, ap}
+use mathlib.Core.Path.{_≡_, refl, sym, ap, _∙_}
 use mathlib.Core.Bool.{Bool, true, false, not, _&&_}
 use mathlib.Core.Option.{Option, none, some}
 use mathlib.Core.List.{List, [], _∷_, _++_, map}
@@ -7,16 +7,18 @@ use Prim.Native.Nat.{ℕ, zero, suc, _+_, _≤_}
 use native.Mathlib.Omega.{arith}
 use lib.Dec.{eqb}
 use lib.ListN.{length, set}
-use Rattle.sizes.specs.Words.{if_then_else_, maybe, given, keep, at, find, drop-first, first-of, times, one-if}
+use Rattle.sizes.specs.Words.{if_then_else_, maybe, given, keep, at, find, drop-first, times, one-if, collect}
+use Rattle.sizes.specs.declared.refusal.Refusal.the-variants as Because
 use Rattle.sizes.proofs.Tests.{none≢some}
-use Rattle.lifecycle.specs.Lifecycle.{Life, announced, triggered, too-early, expired, finished, started}
+use Rattle.lifecycle.specs.Lifecycle.{Life, announced, expired, finished, started}
 use Rattle.lifecycle.specs.Setup.{Setup}
-use Rattle.definition.specs.Encoder.{Symbol, read}
 use Rattle.definition.specs.FdtSession.{fdt-published, fdt-run}
-use Rattle.definition.specs.Session.{Object, Hand, Session, living, startable, begin, put-back, forced, Turn, idle, sent, serve, go-on, take-on, file-run}
-use Rattle.definition.specs.Desk.{Desk, Request, Call, Answer, opening, in-hands, objects, is, moved, numbered, with-fdt, in-hand, marked, marked-hand, all-published, unlisted, removed, prompted, reserved, toi-for, made, admitted, not-loose, full, add-refusal, publish-refusal, draft-refusal, draft-of, ran, fdt-queued, fdt-ran, step}
+use Rattle.definition.specs.Session.{Object, Hand, Session, living, startable, begin, put-back, Turn, sent, file-run}
+use Rattle.definition.specs.Desk.{Desk, Request, Call, Answer, opening, in-hands, objects, moved, numbered, with-fdt, in-hand, marked, marked-hand, all-published, reserved, toi-for, made, admitted, reserve-refusal, release-refusal, add-refusal, publish-refusal, draft-refusal, draft-of, ran, fdt-queued, fdt-ran, step, Touch, touched-waiting, touched-hand, touched}
 use Rattle.definition.specs.Apart.{adding}
 use Rattle.definition.proofs.Refused.{either, kept}
+use Rattle.definition.proofs.Touches.{Waiting, gone, lives, touched-kept, touched-hand-kept}
+use Rattle.definition.proofs.Runs.{run-goes}
 
 -- ---- sums over lists
 
@@ -73,14 +75,12 @@ pub sort-of : (c : Call) → Sort c
 sort-of (Call.add named q) = an-add named q refl
 sort-of Call.reserve = another refl
 sort-of (Call.release t) = another refl
-sort-of (Call.remove t) = another refl
-sort-of (Call.trigger t f) = another refl
-sort-of (Call.listed t) = another refl
-sort-of (Call.transfers t) = another refl
+sort-of (Call.touch t x) = another refl
+sort-of (Call.ask q) = another refl
 sort-of Call.complete = another refl
 sort-of (Call.publish now c) = another refl
 sort-of (Call.run-fdt now draft) = another refl
-sort-of (Call.run-file now i) = another refl
+sort-of (Call.run-file i now) = another refl
 
 -- at set-up there is none
 pub none-yet : (s : Setup) → objects (opening s) ≡ []
@@ -165,40 +165,14 @@ module _ (w : Object → ℕ) where
         (let a = total-append w q (o ∷ []) in let b = stable (finished now (h .object .life)) (h .object) in omega arith) (omega arith)
 
     -- a turn keeps or drops objects, and makes none
-    module _ (s : Setup) (now : ℕ) (again : List Object → Turn) (h-again : (q : List Object) → weight (again q) ≤ total w q) where
-      serve-weight : (q : List Object) (h : Hand) → weight (serve s now again q h) ≤ total w q + w (h .object)
-      unfolding serve sent
-      serve-weight q h =
-          let r = read (s .window) (h .object .part) (h .object .sizes) (forced h) (h .encoder) in
-          elim (too-early now (h .pace)) as (λ t. weight (if t then idle q (some h) else maybe (again (put-back now h q)) (sent q h (r .1)) (r .0)) ≤ total w q + w (h .object)) [
-            | true ↦ omega arith
-            | false ↦ elim (r .0) as (λ (y : Option Symbol). weight (maybe (again (put-back now h q)) (sent q h (r .1)) y) ≤ total w q + w (h .object))
-                [ none ↦ (let a = h-again (put-back now h q) in let b = back-weight now h q in omega arith) | some y ↦ omega arith ]
-          ]
-
-      go-on-weight : (b : Bool) (q : List Object) (h : Hand) → weight (go-on s now b again q h) ≤ total w q + w (h .object)
-      unfolding go-on
-      go-on-weight true q h = omega arith
-      go-on-weight false q h = serve-weight q h
-
-      take-on-weight : (p : ℕ) (b : Bool) (q : List Object) → weight (take-on s p now b again q) ≤ total w q
-      unfolding take-on begin
-      take-on-weight p b q = go (find (startable p now) q) refl
-        where
-          go : (x : Option Object) → find (startable p now) q ≡ x
-              → weight (maybe (idle q none) (λ o. go-on s now b again (drop-first (startable p now) q) (begin now o)) x) ≤ total w q
-          go none e = omega arith
-          go (some o) e =
-              let a = go-on-weight b (drop-first (startable p now) q) (begin now o) in
-              let c = total-take w (startable p now) q o e in
-              let k = stable (started (o .plan) now (o .life)) o in omega arith
-
     file-run-weight : (s : Setup) (p now : ℕ) (b : Bool) (q : List Object) (h : Option Hand) → weight (file-run s p now b q h) ≤ total w q + load h
-    unfolding file-run
-    file-run-weight s p now b q none =
-        let a = take-on-weight s now (λ q′. idle q′ none) (λ q′. omega arith) p b q in omega arith
-    file-run-weight s p now b q (some h) =
-        go-on-weight s now (take-on s p now b (λ q′. idle q′ none)) (λ q′. take-on-weight s now (λ q″. idle q″ none) (λ q″. omega arith) p b q′) b q h
+    unfolding sent begin
+    file-run-weight s p now b q₀ h₀ = run-goes s p now b (λ q h. total w q + load h ≤ total w q₀ + load h₀) (λ t. weight t ≤ total w q₀ + load h₀) (record {
+      rests = λ q h i. i;
+      sends = λ q h y i. i;
+      ends = λ q h i. (let a = back-weight now h q in omega arith);
+      takes = λ q o e i. (let c = total-take w (startable p now) q o e in let k = stable (started (o .plan) now (o .life)) o in omega arith);
+    }) q₀ h₀ (omega arith)
 
     published-lighter : (d : Desk) → total w (objects (all-published d)) ≤ total w (objects d)
     unfolding all-published marked marked-hand
@@ -209,27 +183,27 @@ module _ (w : Object → ℕ) where
         same : (h : Hand) → w (marked-hand h .object) ≡ w (h .object)
         same h = either (λ (x : Hand). w (x .object) ≡ w (h .object)) (h .listed) _ h (stable (announced (h .object .life)) (h .object)) refl
 
-    unlisted-same : (t : ℕ) (h : Hand) → w (unlisted t h .object) ≡ w (h .object)
-    unfolding unlisted
-    unlisted-same t h = either (λ (x : Hand). w (x .object) ≡ w (h .object)) (is t (h .object)) _ h refl refl
+    touched-same : (t : ℕ) (x : Touch) (h : Hand) → w (touched-hand t x h .object) ≡ w (h .object)
+    touched-same t x h = let k = touched-hand-kept t x h in ap w (k .object) ∙ stable (k .life) (h .object)
 
-    prompted-same : (t : ℕ) (f : Option ℕ) (o : Object) → w (prompted t f o) ≡ w o
-    unfolding prompted
-    prompted-same t f o = either (λ x. w x ≡ w o) (is t o) (living (triggered f (o .life)) o) o (stable (triggered f (o .life)) o) refl
+    touched-lighter : (g : Object → Option Object) → ((o : Object) → Waiting o (g o)) → (q : List Object) → total w (collect g q) ≤ total w q
+    touched-lighter g k [] = omega arith
+    touched-lighter g k (o ∷ q) = go (g o) (k o) (touched-lighter g k q)
+      where
+        go : (y : Option Object) → Waiting o y → total w (collect g q) ≤ total w q → total w (maybe (collect g q) (λ z. z ∷ collect g q) y) ≤ w o + total w q
+        go y gone r = omega arith
+        go y (lives l) r = let h = stable l o in omega arith
 
     -- a call that is no add makes no sum larger
     pub lighter : (s : Setup) (d : Desk) (c : Call) → adding c ≡ none → total w (objects (step s d c .1)) ≤ total w (objects d)
-    unfolding step reserved numbered removed ran fdt-ran with-fdt objects
-    lighter s d Call.reserve k = kept (λ e. total w (objects e) ≤ total w (objects d)) (first-of ((7, full d) ∷ [])) d _ (omega arith) (λ e. omega arith)
-    lighter s d (Call.release t) k = kept (λ e. total w (objects e) ≤ total w (objects d)) (first-of ((6, not-loose d (some t)) ∷ [])) d _ (omega arith) (λ e. omega arith)
+    unfolding step reserved numbered touched ran fdt-ran with-fdt objects
+    lighter s d Call.reserve k = kept (λ e. total w (objects e) ≤ total w (objects d)) (reserve-refusal d) d _ (omega arith) (λ e. omega arith)
+    lighter s d (Call.release t) k = kept (λ e. total w (objects e) ≤ total w (objects d)) (release-refusal d t) d _ (omega arith) (λ e. omega arith)
     lighter s d (Call.add named q) k = absurd (none≢some (sym k))
-    lighter s d (Call.remove t) k = moved-lighter d (keep (λ o. not (is t o)) (d .queue)) (map (in-hand (unlisted t)) (d .sessions)) (
-        let a = total-keep w (λ o. not (is t o)) (d .queue) in
-        let b = hands-map (unlisted t) (unlisted-same t) (d .sessions) in omega arith)
-    lighter s d (Call.trigger t f) k = moved-lighter d (map (prompted t f) (d .queue)) (d .sessions) (
-        let a = total-map w (prompted t f) (prompted-same t f) (d .queue) in omega arith)
-    lighter s d (Call.listed t) k = omega arith
-    lighter s d (Call.transfers t) k = omega arith
+    lighter s d (Call.touch t x) k = moved-lighter d (collect (touched-waiting t x) (d .queue)) (map (in-hand (touched-hand t x)) (d .sessions)) (
+        let a = touched-lighter (touched-waiting t x) (touched-kept t x) (d .queue) in
+        let b = hands-map (touched-hand t x) (touched-same t x) (d .sessions) in omega arith)
+    lighter s d (Call.ask q) k = omega arith
     lighter s d Call.complete k = omega arith
     lighter s d (Call.publish now c) k = kept (λ e. total w (objects e) ≤ total w (objects d)) (publish-refusal s (d .fdt) c) d _ (omega arith)
         (λ e. published-lighter (with-fdt d (fdt-published now c (d .fdt))))
@@ -237,9 +211,9 @@ module _ (w : Object → ℕ) where
         let r = fdt-run s now (draft-of draft) (d .fdt) in
         kept (λ e. total w (objects e) ≤ total w (objects d)) (draft-refusal s (d .fdt) draft) d _ (omega arith)
         (λ e. either (λ (x : Desk). total w (objects x) ≤ total w (objects d)) (r .taken) (all-published (with-fdt d (r .fdt))) (with-fdt d (r .fdt)) (published-lighter (with-fdt d (r .fdt))) (omega arith))
-    lighter s d (Call.run-file now i) k = go (at (d .sessions) i) refl
+    lighter s d (Call.run-file i now) k = go (at (d .sessions) i) refl
       where
-        go : (x : Option Session) → at (d .sessions) i ≡ x → total w (objects (maybe (Answer.refused 8, d) (ran s now i d) x .1)) ≤ total w (objects d)
+        go : (x : Option Session) → at (d .sessions) i ≡ x → total w (objects (maybe (Answer.refused Because.NoSession, d) (ran s now i d) x .1)) ≤ total w (objects d)
         go none e = omega arith
         go (some x) e =
             let r = file-run s (x .priority) now (fdt-queued d) (d .queue) (x .hand) in

@@ -6,6 +6,8 @@ use Prim.Native.Nat.{ℕ}
 use lib.Dec.{eqb, leb}
 use lib.ListN.{length, set}
 use Rattle.sizes.specs.Words.{if_then_else_, maybe, given, collect, keep, any, at, has, find, first-of}
+use Rattle.sizes.specs.declared.refusal.Refusal.{Refusal}
+use Rattle.sizes.specs.declared.refusal.Refusal.the-variants as Because
 use Rattle.sizes.specs.Limits.{toi-entries, object-slots, waiting-fdts}
 use Rattle.sizes.specs.declared.partition.Sizes.{Sizes}
 use Rattle.sizes.specs.Toi.{first-toi, next-toi}
@@ -34,21 +36,29 @@ pub record Request : Type 0 where
   pub plan : Plan
   pub named-start : Option ℕ
 
+-- what is done to a listed object; each answers whether there is one
+pub data Touch : Type 0 where
+  remove : Touch
+  trigger : Option ℕ → Touch  -- and a named start, if any
+
+-- what only asks
+pub data Question : Type 0 where
+  listed : ℕ → Question
+  transfers : ℕ → Question
+
 pub data Call : Type 0 where
   reserve : Call
   release : ℕ → Call
   add : Option ℕ → Request → Call  -- the reservation it names, if any
-  remove : ℕ → Call
-  trigger : ℕ → Option ℕ → Call  -- and a named start, if any
-  listed : ℕ → Call
-  transfers : ℕ → Call
+  touch : ℕ → Touch → Call  -- of the listed object with that number
+  ask : Question → Call
   complete : Call
   publish : ℕ → Part → Call  -- clock, content
   run-fdt : ℕ → Option Part → Call  -- clock, draft
-  run-file : ℕ → ℕ → Call  -- clock, session
+  run-file : ℕ → ℕ → Call  -- session, clock
 
 pub data Answer : Type 0 where
-  refused : ℕ → Answer
+  refused : Refusal → Answer
   number : ℕ → Answer
   done : Answer
   truth : Bool → Answer
@@ -69,7 +79,7 @@ opening s = record {
 
 -- set-up: refusal 1, and no desk, where a number is out of its range
 unfoldable pub set-up : Setup → Answer × Option Desk
-set-up s = if sound s then (done, some (opening s)) else (refused 1, none)
+set-up s = if sound s then (done, some (opening s)) else (refused Because.SetUp, none)
 
 -- the objects that sessions have in hand
 unfoldable pub in-hands : List Session → List Object
@@ -121,16 +131,30 @@ marked-hand h = if h .listed then record { object = marked (h .object); listed =
 unfoldable pub all-published : Desk → Desk
 all-published d = moved d (map marked (d .queue)) (map (in-hand marked-hand) (d .sessions))
 
--- remove takes the object with the number from the list; a session that has it in hand keeps it
-unfoldable pub unlisted : ℕ → Hand → Hand
-unlisted t h = if is t (h .object) then record { object = h .object; listed = false; encoder = h .encoder; pace = h .pace } else h
+-- what becomes of an object that waits: a removed one is gone
+abbrev pub waiting-after : Touch → Object → Option Object
+waiting-after remove o = none
+waiting-after (trigger f) o = some (living (triggered f (o .life)) o)
 
-unfoldable pub removed : ℕ → Desk → Desk
-removed t d = moved d (keep (λ o. not (is t o)) (d .queue)) (map (in-hand (unlisted t)) (d .sessions))
+-- what becomes of one that a session has in hand: removed, it stays in hand; trigger touches none in transfer
+abbrev pub hand-after : Touch → Hand → Hand
+hand-after remove h = record { object = h .object; listed = false; encoder = h .encoder; pace = h .pace }
+hand-after (trigger f) h = h
 
--- trigger touches an object that waits, and none in transfer
-unfoldable pub prompted : ℕ → Option ℕ → Object → Object
-prompted t f o = if is t o then living (triggered f (o .life)) o else o
+-- only the object with the number is touched
+unfoldable pub touched-waiting : ℕ → Touch → Object → Option Object
+touched-waiting t x o = if is t o then waiting-after x o else some o
+
+unfoldable pub touched-hand : ℕ → Touch → Hand → Hand
+touched-hand t x h = if is t (h .object) then hand-after x h else h
+
+unfoldable pub touched : ℕ → Touch → Desk → Desk
+touched t x d = moved d (collect (touched-waiting t x) (d .queue)) (map (in-hand (touched-hand t x)) (d .sessions))
+
+-- what a question is answered
+abbrev pub answer-to : Desk → Question → Answer
+answer-to d (listed t) = truth (given (listed-as d t))
+answer-to d (transfers t) = transferred (maybe none (λ (o : Object). some (o .life .total)) (listed-as d t))
 
 -- the next number is given: it is held as a loose reservation, and the next after it that is not held comes next
 unfoldable pub reserved : Setup → Desk → Desk
@@ -190,23 +214,31 @@ full d = leb toi-entries (length (numbers d))
 unfoldable pub no-room : Desk → Option ℕ → Bool
 no-room d named = leb object-slots (length (objects d)) || (not (given named) && full d)
 
+-- why a reservation is refused
+unfoldable pub reserve-refusal : Desk → Option Refusal
+reserve-refusal d = first-of ((Because.Full, full d) ∷ [])
+
+-- why a release is refused
+unfoldable pub release-refusal : Desk → ℕ → Option Refusal
+release-refusal d t = first-of ((Because.NotLoose, not-loose d (some t)) ∷ [])
+
 -- why an add is refused
-unfoldable pub add-refusal : Setup → Desk → Option ℕ → Request → Option ℕ
+unfoldable pub add-refusal : Setup → Desk → Option ℕ → Request → Option Refusal
 add-refusal s d named q = first-of
-    ((2, no-session d (q .priority))
-    ∷ (3, d .complete)
-    ∷ (4, bad-blocks (own-sizes s q) (q .part .size))
-    ∷ (5, bad-object-part s d (q .part))
-    ∷ (6, not-loose d named)
-    ∷ (7, no-room d named)
+    ((Because.NoPriority, no-session d (q .priority))
+    ∷ (Because.Complete, d .complete)
+    ∷ (Because.Sizes, bad-blocks (own-sizes s q) (q .part .size))
+    ∷ (Because.Part, bad-object-part s d (q .part))
+    ∷ (Because.NotLoose, not-loose d named)
+    ∷ (Because.Full, no-room d named)
     ∷ [])
 
 -- why a publish is refused; the FDT queue holds 4
-unfoldable pub publish-refusal : Setup → Fdt → Part → Option ℕ
+unfoldable pub publish-refusal : Setup → Fdt → Part → Option Refusal
 publish-refusal s f c = first-of
-    ((4, bad-blocks (s .sizes) (c .size))
-    ∷ (5, bad-fdt-part s (f .state) c || eqb (c .size) 0)
-    ∷ (7, leb waiting-fdts (length (f .state .waiting)))
+    ((Because.Sizes, bad-blocks (s .sizes) (c .size))
+    ∷ (Because.Part, bad-fdt-part s (f .state) c || eqb (c .size) 0)
+    ∷ (Because.Full, leb waiting-fdts (length (f .state .waiting)))
     ∷ [])
 
 -- a draft of length 0 is no draft
@@ -214,8 +246,8 @@ unfoldable pub draft-of : Option Part → Option Part
 draft-of = maybe none (λ c. if eqb (c .size) 0 then none else some c)
 
 -- why an FDT run is refused: its draft is bad, whether or not it would be taken
-unfoldable pub draft-refusal : Setup → Fdt → Option Part → Option ℕ
-draft-refusal s f draft = maybe none (λ c. first-of ((4, bad-blocks (s .sizes) (c .size)) ∷ (5, bad-fdt-part s (f .state) c) ∷ [])) (draft-of draft)
+unfoldable pub draft-refusal : Setup → Fdt → Option Part → Option Refusal
+draft-refusal s f draft = maybe none (λ c. first-of ((Because.Sizes, bad-blocks (s .sizes) (c .size)) ∷ (Because.Part, bad-fdt-part s (f .state) c) ∷ [])) (draft-of draft)
 
 -- is an FDT queued: then file sessions answer nothing
 unfoldable pub fdt-queued : Desk → Bool
@@ -225,9 +257,9 @@ abbrev pub Result : Type 0
 Result = Answer × Desk
 
 -- the refusal, with the desk as it was; or the result
-abbrev pub unless : Option ℕ → Desk → Result → Result
+abbrev pub unless : Option Refusal → Desk → Result → Result
 unless none d r = r
-unless (some n) d r = (refused n, d)
+unless (some why) d r = (refused why, d)
 
 -- the run of file session x, which is session i
 unfoldable pub ran : Setup → ℕ → ℕ → Desk → Session → Result
@@ -243,19 +275,17 @@ fdt-ran s now draft d =
 
 -- one call
 unfoldable pub step : Setup → Desk → Call → Result
-step s d reserve = unless (first-of ((7, full d) ∷ [])) d (number (d .next), reserved s d)
-step s d (release t) = unless (first-of ((6, not-loose d (some t)) ∷ [])) d (done, numbered d (d .next) (unloosed t (d .loose)))
+step s d reserve = unless (reserve-refusal d) d (number (d .next), reserved s d)
+step s d (release t) = unless (release-refusal d t) d (done, numbered d (d .next) (unloosed t (d .loose)))
 step s d (add named q) =
     unless (add-refusal s d named q) d
     (number (toi-for d named), admitted s (toi-for d named) q (if given named then d else reserved s d))
-step s d (remove t) = (truth (given (listed-as d t)), removed t d)
-step s d (trigger t f) = (truth (given (listed-as d t)), moved d (map (prompted t f) (d .queue)) (d .sessions))
-step s d (listed t) = (truth (given (listed-as d t)), d)
-step s d (transfers t) = (transferred (maybe none (λ (o : Object). some (o .life .total)) (listed-as d t)), d)
+step s d (touch t x) = (truth (given (listed-as d t)), touched t x d)
+step s d (ask q) = (answer-to d q, d)
 step s d complete = (done, record { complete = true; next = d .next; loose = d .loose; queue = d .queue; sessions = d .sessions; fdt = d .fdt })
 step s d (publish now c) = unless (publish-refusal s (d .fdt) c) d (done, all-published (with-fdt d (fdt-published now c (d .fdt))))
 step s d (run-fdt now draft) = unless (draft-refusal s (d .fdt) draft) d (fdt-ran s now (draft-of draft) d)
-step s d (run-file now i) = maybe (refused 8, d) (ran s now i d) (at (d .sessions) i)
+step s d (run-file i now) = maybe (refused Because.NoSession, d) (ran s now i d) (at (d .sessions) i)
 
 -- a run of calls: each call's answer, and the desk at the end
 unfoldable pub run : Setup → Desk → List Call → List Answer × Desk

@@ -11,8 +11,8 @@ use Rattle.sizes.specs.declared.partition.Sizes.{Sizes}
 use Rattle.lifecycle.specs.declared.parts.Part.{Part}
 use Rattle.lifecycle.specs.Setup.{Setup, sound}
 use Rattle.definition.specs.Encoder.{Encoder, Symbol, fresh, visit, stopping, read}
-use Rattle.definition.specs.FdtSession.{Packet, Fdt, FdtTurn, fdt-attempt, fdt-idle, fdt-run}
-use Rattle.definition.specs.Session.{Object, Hand, Session, Turn, begin, idle, serve, go-on, take-on, file-run}
+use Rattle.definition.specs.FdtSession.{Packet, Fdt, FdtTurn, FdtRound, fdt-idle, fdt-round, fdt-run}
+use Rattle.definition.specs.Session.{Object, Hand, Session, Turn, begin, idle, Round, over, again, round-with, round, file-run}
 use Rattle.definition.specs.Desk.{Desk, Call, opening, step, run}
 use Rattle.definition.specs.Apart.{refusal-in}
 
@@ -38,42 +38,43 @@ FirstRead = (w : ℕ) (c : Part) (z : Sizes) (closable : Bool) → 1 ≤ w → 1
 
 -- ---- rounds
 
--- an object that has just been taken is served whatever would come after: there is no third round
+-- does the session go round again
+abbrev pub goes-again : Round → Bool
+goes-again (over t) = false
+goes-again (again q) = true
+
+-- not with an object that has just been taken: there is no third round
 abbrev pub NoThird : Type 0
-NoThird = (s : Setup) (now : ℕ) (again again′ : List Object → Turn) (q : List Object) (o : Object) → 1 ≤ s .window → 1 ≤ o .sizes .e → 1 ≤ o .sizes .b
-    → serve s now again q (begin now o) ≡ serve s now again′ q (begin now o)
+NoThird = (s : Setup) (now : ℕ) (fdt-queued : Bool) (q : List Object) (o : Object) → 1 ≤ s .window → 1 ≤ o .sizes .e → 1 ≤ o .sizes .b
+    → goes-again (round-with s now fdt-queued q (begin now o)) ≡ false
 
--- the same of an FDT that has just been asked for
+abbrev pub fdt-goes-again : FdtRound → Bool
+fdt-goes-again (FdtRound.over t) = false
+fdt-goes-again (FdtRound.again taken f) = true
+
+-- nor with an FDT that has just been asked for
 abbrev pub FdtNoThird : Type 0
-FdtNoThird = (s : Setup) (now : ℕ) (draft : Option Part) (again again′ : Bool → Fdt → FdtTurn) (taken : Bool) (f : Fdt) → 1 ≤ s .window → 1 ≤ s .sizes .e → 1 ≤ s .sizes .b → f .hand ≡ none
-    → fdt-attempt s now draft again taken f ≡ fdt-attempt s now draft again′ taken f
+FdtNoThird = (s : Setup) (now : ℕ) (draft : Option Part) (taken : Bool) (f : Fdt) → 1 ≤ s .window → 1 ≤ s .sizes .e → 1 ≤ s .sizes .b → f .hand ≡ none
+    → fdt-goes-again (fdt-round s now draft taken f) ≡ false
 
--- a file session's loop with nothing in hand, cut after n rounds
-unfoldable pub rounds : Setup → ℕ → ℕ → Bool → ℕ → List Object → Turn
-rounds s p now blocked zero q = idle q none
-rounds s p now blocked (suc n) q = let again = rounds s p now blocked n in take-on s p now blocked again q
-
--- a file session's run, with n more rounds allowed
-unfoldable pub file-loop : ℕ → Setup → ℕ → ℕ → Bool → List Object → Option Hand → Turn
-file-loop n s p now blocked q hand = maybe (rounds s p now blocked (suc n) q) (go-on s now blocked (rounds s p now blocked (suc n)) q) hand
+-- a file session's loop, cut after n rounds
+unfoldable pub rounds : ℕ → Setup → ℕ → ℕ → Bool → List Object → Option Hand → Turn
+rounds zero s p now fdt-queued q hand = idle q hand
+rounds (suc n) s p now fdt-queued q hand = elim (round s p now fdt-queued q hand) [ over t ↦ t | again q′ ↦ rounds n s p now fdt-queued q′ none ]
 
 -- from an accepted set-up, after any calls, a file session's run comes to the same with more rounds
 abbrev pub RoundsEnough : Type 0
 RoundsEnough = (s : Setup) → sound s ≡ true → (l : List Call) (i : ℕ) (x : Session) (n now : ℕ) (blocked : Bool) → at (run s (opening s) l .1 .sessions) i ≡ some x
-    → file-loop n s (x .priority) now blocked (run s (opening s) l .1 .queue) (x .hand) ≡ file-run s (x .priority) now blocked (run s (opening s) l .1 .queue) (x .hand)
+    → rounds (suc (suc n)) s (x .priority) now blocked (run s (opening s) l .1 .queue) (x .hand) ≡ file-run s (x .priority) now blocked (run s (opening s) l .1 .queue) (x .hand)
 
 -- the FDT session's loop, cut after n rounds
-unfoldable pub fdt-rounds : Setup → ℕ → Option Part → ℕ → Bool → Fdt → FdtTurn
-fdt-rounds s now draft zero taken f = fdt-idle taken f
-fdt-rounds s now draft (suc n) taken f = let again = fdt-rounds s now draft n in fdt-attempt s now draft again taken f
-
--- the FDT session's run, with n more rounds allowed
-unfoldable pub fdt-loop : ℕ → Setup → ℕ → Option Part → Fdt → FdtTurn
-fdt-loop n s now draft f = fdt-rounds s now draft (suc (suc n)) false f
+unfoldable pub fdt-rounds : ℕ → Setup → ℕ → Option Part → Bool → Fdt → FdtTurn
+fdt-rounds zero s now draft taken f = fdt-idle taken f
+fdt-rounds (suc n) s now draft taken f = elim (fdt-round s now draft taken f) [ FdtRound.over t ↦ t | FdtRound.again taken′ f′ ↦ fdt-rounds n s now draft taken′ f′ ]
 
 -- the FDT session's run comes to the same with more rounds
 abbrev pub FdtRoundsEnough : Type 0
-FdtRoundsEnough = (n : ℕ) (s : Setup) (now : ℕ) (draft : Option Part) (f : Fdt) → 1 ≤ s .window → 1 ≤ s .sizes .e → 1 ≤ s .sizes .b → fdt-loop n s now draft f ≡ fdt-run s now draft f
+FdtRoundsEnough = (n : ℕ) (s : Setup) (now : ℕ) (draft : Option Part) (f : Fdt) → 1 ≤ s .window → 1 ≤ s .sizes .e → 1 ≤ s .sizes .b → fdt-rounds (suc (suc n)) s now draft false f ≡ fdt-run s now draft f
 
 -- ---- the draft of an FDT run
 

@@ -77,24 +77,37 @@ sent q h x y = record {
   hand = some record { object = h .object; listed = h .listed; encoder = x; pace = maybe none (λ c. some (paced c)) (h .pace) };
 }
 
--- nothing before the due time; read; on none the object is done, and `again` goes on with the queue
-unfoldable pub serve : Setup → ℕ → (List Object → Turn) → List Object → Hand → Turn
-serve s now again q h =
-    if too-early now (h .pace) then idle q (some h)
+-- what one round comes to: the run is over, or only the transfer is, and the session goes round again with this queue
+pub data Round : Type 0 where
+  over : Turn → Round
+  again : List Object → Round
+
+-- what is in hand; with nothing in hand, the first in the queue that may start is taken
+unfoldable pub in-hand-or-next : ℕ → ℕ → List Object → Option Hand → Option Hand × List Object
+in-hand-or-next p now q (some h) = (some h, q)
+in-hand-or-next p now q none = elim (find (startable p now) q) [ none ↦ (none, q) | some o ↦ (some (begin now o), drop-first (startable p now) q) ]
+
+-- with an object in hand: nothing while an FDT is queued, nothing before the due time; else read, and on none the object is done
+unfoldable pub round-with : Setup → ℕ → Bool → List Object → Hand → Round
+round-with s now fdt-queued q h =
+    if fdt-queued then over (idle q (some h))
+    else if too-early now (h .pace) then over (idle q (some h))
     else (let r = read (s .window) (h .object .part) (h .object .sizes) (forced h) (h .encoder) in
-    maybe (again (put-back now h q)) (sent q h (r .1)) (r .0))
+    elim (r .0) [ none ↦ again (put-back now h q) | some y ↦ over (sent q h (r .1) y) ])
 
--- with an object in hand: nothing while an FDT is queued, and the object stays in hand
-unfoldable pub go-on : Setup → ℕ → Bool → (List Object → Turn) → List Object → Hand → Turn
-go-on s now blocked again q h = if blocked then idle q (some h) else serve s now again q h
+-- one round; it is over where there is nothing to take
+unfoldable pub round : Setup → ℕ → ℕ → Bool → List Object → Option Hand → Round
+round s p now fdt-queued q hand =
+    let t = in-hand-or-next p now q hand in
+    elim (t .0) [ none ↦ over (idle (t .1) none) | some h ↦ round-with s now fdt-queued (t .1) h ]
 
--- with nothing in hand: take the first in the queue that may start
-unfoldable pub take-on : Setup → ℕ → ℕ → Bool → (List Object → Turn) → List Object → Turn
-take-on s p now blocked again q =
-    maybe (idle q none) (λ o. go-on s now blocked again (drop-first (startable p now) q) (begin now o)) (find (startable p now) q)
+-- the last round of a run: what it takes anew has a symbol to send, so it does not go round again (Promises.NoThird)
+abbrev pub last-round : Round → Turn
+last-round (over t) = t
+last-round (again q) = idle q none
 
--- a file session's run: what is taken anew has a symbol to send, so there is no third round
+-- a file session's run: at the end of the transfer in hand, one round more
 unfoldable pub file-run : Setup → ℕ → ℕ → Bool → List Object → Option Hand → Turn
-file-run s p now blocked q hand =
-    let anew = take-on s p now blocked (λ q′. idle q′ none) in
-    maybe (anew q) (go-on s now blocked anew q) hand
+file-run s p now fdt-queued q none = last-round (round s p now fdt-queued q none)
+file-run s p now fdt-queued q (some h) =
+    elim (round s p now fdt-queued q (some h)) [ over t ↦ t | again q′ ↦ last-round (round s p now fdt-queued q′ none) ]

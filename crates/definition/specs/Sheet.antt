@@ -1,10 +1,11 @@
--- Examples, computed from the definition: the bench sheet, three transfers and two runs. Proved in proofs/Sheet and proofs/Trial.
+-- Examples, computed from the definition: the bench sheet, four transfers and two runs. Proved in proofs/AllExamples.
 use mathlib.Core.Path.{_≡_}
 use mathlib.Core.Bool.{Bool, true, false}
 use mathlib.Core.Option.{Option, none, some}
 use mathlib.Core.List.{List, [], _∷_, map}
 use Prim.Native.Nat.{ℕ, zero, suc, _-_, _^_}
-use Rattle.sizes.specs.Words.{maybe, one-if}
+use Rattle.sizes.specs.Words.{if_then_else_, maybe, one-if}
+use Rattle.sizes.specs.Refusals.{refusal-number}
 use Rattle.sizes.specs.Partition.{sbn, blocks-of, block-length}
 use Rattle.sizes.specs.declared.partition.Sizes.{Sizes}
 use Rattle.sizes.specs.Toi.{first-toi, next-toi}
@@ -14,13 +15,13 @@ use Rattle.lifecycle.specs.Setup.{Setup}
 use Rattle.lifecycle.specs.Fdt.{runs-out}
 use Rattle.definition.specs.Encoder.{Encoder, Symbol, fresh, read}
 use Rattle.definition.specs.FdtSession.{Packet}
-use Rattle.definition.specs.Desk.{Request, Call, Answer, opening, run}
+use Rattle.definition.specs.Desk.{Request, Touch, Question, Call, Answer, opening, run}
 
 -- ---- the bench sheet
 
 -- l bytes in symbols of e and blocks of b: large, small, I, N
 unfoldable pub parts : ℕ → ℕ → ℕ → List ℕ
-parts l e b = let p = blocks-of (record { e = e; b = b }) l in p .large ∷ p .small ∷ p .bigs ∷ p .blocks ∷ []
+parts l e b = let p = blocks-of (record { e = e; b = b }) l in p .large ∷ p .small ∷ p .«nb_a_large» ∷ p .blocks ∷ []
 
 -- the length of block k
 unfoldable pub len : ℕ → ℕ → ℕ → ℕ → Option ℕ
@@ -117,100 +118,121 @@ object-with p at n m r t = record {
 abbrev pub object : ℕ → ℕ → ℕ → ℕ → Request
 object p at n m = object-with p at n m none Target.at-once
 
--- a packet in numbers, after whether a draft was taken: 4 taken id+1 toi block symbol start length close; no packet is 5 taken
-abbrev pub packet-shown : Bool → Option Packet → List ℕ
-packet-shown b none = 5 ∷ one-if b ∷ []
-packet-shown b (some k) =
-    4 ∷ one-if b ∷ maybe 0 suc (k .id) ∷ k .toi ∷ k .symbol .block .0 ∷ k .symbol .symbol .0 ∷ k .symbol .payload .start ∷ k .symbol .payload .size ∷ one-if (k .symbol .close) ∷ []
+-- what an example tells of an answer; of a packet: its object number or FDT id, block, symbol, where its bytes start, how many they are, and whether it closes
+pub data Told : Type 0 where
+  refusal : ℕ → Told
+  toi : ℕ → Told
+  ok : Told
+  yes : Told
+  no : Told
+  sent-whole : ℕ → Told
+  not-listed : Told
+  nothing : Told
+  obj : ℕ → ℕ → ℕ → ℕ → ℕ → Told
+  last-obj : ℕ → ℕ → ℕ → ℕ → ℕ → Told  -- it closes
+  fdt : ℕ → ℕ → ℕ → ℕ → ℕ → Told
+  draft : ℕ → ℕ → ℕ → ℕ → ℕ → Told  -- an FDT that this run took from its draft
 
--- an answer in numbers: refused n is 0 n; a number 1 t; yes or no 2 b; a total 3 n; done 9
-abbrev pub show : Answer → List ℕ
-show (Answer.refused n) = 0 ∷ n ∷ []
-show (Answer.number t) = 1 ∷ t ∷ []
-show Answer.done = 9 ∷ []
-show (Answer.truth b) = 2 ∷ one-if b ∷ []
-show (Answer.transferred none) = 3 ∷ []
-show (Answer.transferred (some n)) = 3 ∷ n ∷ []
-show (Answer.fdt-output b k) = packet-shown b k
-show (Answer.output k) = packet-shown false k
+abbrev pub object-told : Packet → Told
+object-told k = if k .symbol .close
+    then last-obj (k .toi) (k .symbol .block .0) (k .symbol .symbol .0) (k .symbol .payload .start) (k .symbol .payload .size)
+    else obj (k .toi) (k .symbol .block .0) (k .symbol .symbol .0) (k .symbol .payload .start) (k .symbol .payload .size)
+
+abbrev pub fdt-told : Bool → Packet → Told
+fdt-told taken k = if taken
+    then draft (maybe 0 (λ i. i) (k .id)) (k .symbol .block .0) (k .symbol .symbol .0) (k .symbol .payload .start) (k .symbol .payload .size)
+    else fdt (maybe 0 (λ i. i) (k .id)) (k .symbol .block .0) (k .symbol .symbol .0) (k .symbol .payload .start) (k .symbol .payload .size)
+
+abbrev pub told : Answer → Told
+told (Answer.refused why) = refusal (refusal-number why)
+told (Answer.number t) = toi t
+told Answer.done = ok
+told (Answer.truth b) = if b then yes else no
+told (Answer.transferred none) = not-listed
+told (Answer.transferred (some n)) = sent-whole n
+told (Answer.fdt-output taken none) = nothing
+told (Answer.fdt-output taken (some k)) = fdt-told taken k
+told (Answer.output none) = nothing
+told (Answer.output (some k)) = object-told k
 
 -- each call with its answer, from set-up on
 abbrev pub Script : Type 0
-Script = List (Call × List ℕ)
+Script = List (Call × Told)
 
 unfoldable pub Plays : Script → Type 0
-Plays l = map show (run setup (opening setup) (map (λ r. r .0) l) .0) ≡ map (λ r. r .1) l
+Plays l = map told (run setup (opening setup) (map (λ r. r .0) l) .0) ≡ map (λ r. r .1) l
 
 -- reserve, add by name, add anew; nothing before publish, and nothing empty is published; the object is taken while the FDT is queued, and sent after it; removed in its first transfer it is sent to its end
 unfoldable pub first-run : Script
 first-run =
-    (Call.reserve, 1 ∷ 65_534 ∷ [])
-    ∷ (Call.add (some 65_534) (object 7 10 6 1), 1 ∷ 65_534 ∷ [])
-    ∷ (Call.add none (object 3 20 2 2), 1 ∷ 65_535 ∷ [])
-    ∷ (Call.add none (object 3 21 2 2), 0 ∷ 5 ∷ [])
-    ∷ (Call.add (some 5) (object 3 30 2 2), 0 ∷ 6 ∷ [])
-    ∷ (Call.add none (object 4 30 2 2), 0 ∷ 2 ∷ [])
-    ∷ (Call.run-file 100 0, 5 ∷ 0 ∷ [])
-    ∷ (Call.publish 100 (bytes 0 0), 0 ∷ 5 ∷ [])
-    ∷ (Call.publish 100 (bytes 0 2), 9 ∷ [])
-    ∷ (Call.run-file 100 0, 5 ∷ 0 ∷ [])
-    ∷ (Call.run-fdt 100 none, 4 ∷ 0 ∷ 0x100000 ∷ 0 ∷ 0 ∷ 0 ∷ 0 ∷ 2 ∷ 0 ∷ [])
-    ∷ (Call.run-file 100 0, 4 ∷ 0 ∷ 0 ∷ 65_534 ∷ 0 ∷ 0 ∷ 10 ∷ 2 ∷ 0 ∷ [])
-    ∷ (Call.remove 65_534, 2 ∷ 1 ∷ [])
-    ∷ (Call.run-file 100 0, 4 ∷ 0 ∷ 0 ∷ 65_534 ∷ 1 ∷ 0 ∷ 14 ∷ 2 ∷ 0 ∷ [])
-    ∷ (Call.run-file 100 0, 4 ∷ 0 ∷ 0 ∷ 65_534 ∷ 0 ∷ 1 ∷ 12 ∷ 2 ∷ 1 ∷ [])
-    ∷ (Call.run-file 100 0, 5 ∷ 0 ∷ [])
-    ∷ (Call.listed 65_535, 2 ∷ 1 ∷ [])
-    ∷ (Call.run-file 100 1, 4 ∷ 0 ∷ 0 ∷ 65_535 ∷ 0 ∷ 0 ∷ 20 ∷ 2 ∷ 0 ∷ [])
-    ∷ (Call.run-file 100 1, 4 ∷ 0 ∷ 0 ∷ 65_535 ∷ 0 ∷ 0 ∷ 20 ∷ 2 ∷ 1 ∷ [])
-    ∷ (Call.transfers 65_535, 3 ∷ 1 ∷ [])
-    ∷ (Call.run-file 100 1, 5 ∷ 0 ∷ [])
-    ∷ (Call.transfers 65_535, 3 ∷ [])
-    ∷ (Call.run-fdt 200 none, 5 ∷ 0 ∷ [])
-    ∷ (Call.reserve, 1 ∷ 1 ∷ [])
-    ∷ (Call.run-file 100 2, 0 ∷ 8 ∷ [])
+    (Call.reserve, toi 65_534)
+    ∷ (Call.add (some 65_534) (object 7 10 6 1), toi 65_534)
+    ∷ (Call.add none (object 3 20 2 2), toi 65_535)
+    ∷ (Call.add none (object 3 21 2 2), refusal 5)
+    ∷ (Call.add (some 5) (object 3 30 2 2), refusal 6)
+    ∷ (Call.add none (object 4 30 2 2), refusal 2)
+    ∷ (Call.run-file 0 100, nothing)
+    ∷ (Call.publish 100 (bytes 0 0), refusal 5)
+    ∷ (Call.publish 100 (bytes 0 2), ok)
+    ∷ (Call.run-file 0 100, nothing)
+    ∷ (Call.run-fdt 100 none, fdt 0xFFFFF 0 0 0 2)
+    ∷ (Call.run-file 0 100, obj 65_534 0 0 10 2)
+    ∷ (Call.touch 65_534 Touch.remove, yes)
+    ∷ (Call.run-file 0 100, obj 65_534 1 0 14 2)
+    ∷ (Call.run-file 0 100, last-obj 65_534 0 1 12 2)
+    ∷ (Call.run-file 0 100, nothing)
+    ∷ (Call.ask (Question.listed 65_535), yes)
+    ∷ (Call.run-file 1 100, obj 65_535 0 0 20 2)
+    ∷ (Call.run-file 1 100, last-obj 65_535 0 0 20 2)
+    ∷ (Call.ask (Question.transfers 65_535), sent-whole 1)
+    ∷ (Call.run-file 1 100, nothing)
+    ∷ (Call.ask (Question.transfers 65_535), not-listed)
+    ∷ (Call.run-fdt 200 none, nothing)
+    ∷ (Call.reserve, toi 1)
+    ∷ (Call.run-file 2 100, refusal 8)
     ∷ []
 
 -- five objects, marked by one publish; the draft beside it is not taken. The second leaves the queue's middle; the first repeats after more than 1000, and once more by a trigger, from 1300 on.
--- The fourth is paced by 500; the first is removed while it is sent. A sixth, empty, is marked by a draft that is taken once the validity has run out; another is too long (4) before it is out of its store (5).
+-- The fourth is paced by 500; the first is removed while it is sent. A sixth, empty, is marked by a draft of two symbols that is taken once the validity has run out; another is too long (4) before it is out of its store (5).
 -- After completion nothing is added, numbers go on, and what is being sent is sent to its end
 unfoldable pub long-run : Script
 long-run =
-    (Call.add none (object-with 7 0 2 1 (some (Carousel.delay 1000)) Target.at-once), 1 ∷ 65_534 ∷ [])
-    ∷ (Call.add none (object 7 10 2 1), 1 ∷ 65_535 ∷ [])
-    ∷ (Call.add none (object 7 20 2 1), 1 ∷ 1 ∷ [])
-    ∷ (Call.add none (object-with 3 30 4 2 none (Target.for 1000)), 1 ∷ 2 ∷ [])
-    ∷ (Call.add none (object 7 50 2 1), 1 ∷ 3 ∷ [])
-    ∷ (Call.run-file 100 0, 5 ∷ 0 ∷ [])
-    ∷ (Call.publish 100 (bytes 0 2), 9 ∷ [])
-    ∷ (Call.run-fdt 100 (some (bytes 10 2)), 4 ∷ 0 ∷ 0x100000 ∷ 0 ∷ 0 ∷ 0 ∷ 0 ∷ 2 ∷ 0 ∷ [])
-    ∷ (Call.remove 65_535, 2 ∷ 1 ∷ [])
-    ∷ (Call.trigger 65_535 none, 2 ∷ 0 ∷ [])
-    ∷ (Call.run-file 100 0, 4 ∷ 0 ∷ 0 ∷ 65_534 ∷ 0 ∷ 0 ∷ 0 ∷ 2 ∷ 0 ∷ [])
-    ∷ (Call.run-file 200 0, 4 ∷ 0 ∷ 0 ∷ 1 ∷ 0 ∷ 0 ∷ 20 ∷ 2 ∷ 1 ∷ [])
-    ∷ (Call.run-file 300 0, 4 ∷ 0 ∷ 0 ∷ 3 ∷ 0 ∷ 0 ∷ 50 ∷ 2 ∷ 1 ∷ [])
-    ∷ (Call.transfers 65_534, 3 ∷ 1 ∷ [])
-    ∷ (Call.run-file 1200 0, 5 ∷ 0 ∷ [])
-    ∷ (Call.run-file 1201 0, 4 ∷ 0 ∷ 0 ∷ 65_534 ∷ 0 ∷ 0 ∷ 0 ∷ 2 ∷ 0 ∷ [])
-    ∷ (Call.run-file 1202 0, 5 ∷ 0 ∷ [])
-    ∷ (Call.transfers 65_534, 3 ∷ 2 ∷ [])
-    ∷ (Call.trigger 65_534 (some 1300), 2 ∷ 1 ∷ [])
-    ∷ (Call.run-file 1299 0, 5 ∷ 0 ∷ [])
-    ∷ (Call.run-file 1300 0, 4 ∷ 0 ∷ 0 ∷ 65_534 ∷ 0 ∷ 0 ∷ 0 ∷ 2 ∷ 0 ∷ [])
-    ∷ (Call.run-file 2000 1, 4 ∷ 0 ∷ 0 ∷ 2 ∷ 0 ∷ 0 ∷ 30 ∷ 2 ∷ 0 ∷ [])
-    ∷ (Call.run-file 2499 1, 5 ∷ 0 ∷ [])
-    ∷ (Call.run-file 2500 1, 4 ∷ 0 ∷ 0 ∷ 2 ∷ 0 ∷ 1 ∷ 32 ∷ 2 ∷ 0 ∷ [])
-    ∷ (Call.run-file 3000 1, 4 ∷ 0 ∷ 0 ∷ 2 ∷ 0 ∷ 0 ∷ 30 ∷ 2 ∷ 0 ∷ [])
-    ∷ (Call.remove 65_534, 2 ∷ 1 ∷ [])
-    ∷ (Call.listed 65_534, 2 ∷ 0 ∷ [])
-    ∷ (Call.add none (object 7 40 0 1), 1 ∷ 4 ∷ [])
-    ∷ (Call.add none (object 7 40 300_000 1), 0 ∷ 4 ∷ [])
-    ∷ (Call.run-file 3001 0, 5 ∷ 0 ∷ [])
-    ∷ (Call.run-fdt 10_000_000_099 (some (bytes 10 2)), 5 ∷ 0 ∷ [])
-    ∷ (Call.run-fdt 10_000_000_100 (some (bytes 10 2)), 4 ∷ 1 ∷ 1 ∷ 0 ∷ 0 ∷ 0 ∷ 10 ∷ 2 ∷ 0 ∷ [])
-    ∷ (Call.run-file 10_000_000_101 0, 4 ∷ 0 ∷ 0 ∷ 4 ∷ 0 ∷ 0 ∷ 40 ∷ 0 ∷ 1 ∷ [])
-    ∷ (Call.complete, 9 ∷ [])
-    ∷ (Call.add none (object 7 50 2 1), 0 ∷ 3 ∷ [])
-    ∷ (Call.reserve, 1 ∷ 5 ∷ [])
-    ∷ (Call.run-file 10_000_000_102 1, 4 ∷ 0 ∷ 0 ∷ 2 ∷ 0 ∷ 1 ∷ 32 ∷ 2 ∷ 1 ∷ [])
+    (Call.add none (object-with 7 0 2 1 (some (Carousel.delay 1000)) Target.at-once), toi 65_534)
+    ∷ (Call.add none (object 7 10 2 1), toi 65_535)
+    ∷ (Call.add none (object 7 20 2 1), toi 1)
+    ∷ (Call.add none (object-with 3 30 4 2 none (Target.for 1000)), toi 2)
+    ∷ (Call.add none (object 7 50 2 1), toi 3)
+    ∷ (Call.run-file 0 100, nothing)
+    ∷ (Call.publish 100 (bytes 0 2), ok)
+    ∷ (Call.run-fdt 100 (some (bytes 10 2)), fdt 0xFFFFF 0 0 0 2)
+    ∷ (Call.touch 65_535 Touch.remove, yes)
+    ∷ (Call.touch 65_535 (Touch.trigger none), no)
+    ∷ (Call.run-file 0 100, obj 65_534 0 0 0 2)
+    ∷ (Call.run-file 0 200, last-obj 1 0 0 20 2)
+    ∷ (Call.run-file 0 300, last-obj 3 0 0 50 2)
+    ∷ (Call.ask (Question.transfers 65_534), sent-whole 1)
+    ∷ (Call.run-file 0 1200, nothing)
+    ∷ (Call.run-file 0 1201, obj 65_534 0 0 0 2)
+    ∷ (Call.run-file 0 1202, nothing)
+    ∷ (Call.ask (Question.transfers 65_534), sent-whole 2)
+    ∷ (Call.touch 65_534 (Touch.trigger (some 1300)), yes)
+    ∷ (Call.run-file 0 1299, nothing)
+    ∷ (Call.run-file 0 1300, obj 65_534 0 0 0 2)
+    ∷ (Call.run-file 1 2000, obj 2 0 0 30 2)
+    ∷ (Call.run-file 1 2499, nothing)
+    ∷ (Call.run-file 1 2500, obj 2 0 1 32 2)
+    ∷ (Call.run-file 1 3000, obj 2 0 0 30 2)
+    ∷ (Call.touch 65_534 Touch.remove, yes)
+    ∷ (Call.ask (Question.listed 65_534), no)
+    ∷ (Call.add none (object 7 40 0 1), toi 4)
+    ∷ (Call.add none (object 7 40 300_000 1), refusal 4)
+    ∷ (Call.run-file 0 3001, nothing)
+    ∷ (Call.run-fdt 10_000_000_099 (some (bytes 10 4)), nothing)
+    ∷ (Call.run-fdt 10_000_000_100 (some (bytes 10 4)), draft 0 0 0 10 2)
+    ∷ (Call.run-fdt 10_000_000_100 none, fdt 0 0 1 12 2)
+    ∷ (Call.run-file 0 10_000_000_101, last-obj 4 0 0 40 0)
+    ∷ (Call.complete, ok)
+    ∷ (Call.add none (object 7 50 2 1), refusal 3)
+    ∷ (Call.reserve, toi 5)
+    ∷ (Call.run-file 1 10_000_000_102, last-obj 2 0 1 32 2)
     ∷ []

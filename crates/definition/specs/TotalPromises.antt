@@ -6,9 +6,7 @@ use mathlib.Core.List.{List, [], _∷_, map}
 use Prim.Native.Nat.{ℕ, _≤_}
 use lib.ListN.{length}
 use Rattle.sizes.specs.Words.{if_then_else_, maybe, has, times, Each}
-use Rattle.sizes.specs.Limits.{largest-symbol, largest-block, most-blocks, toi-entries, object-slots, waiting-fdts, longest-store}
-use Rattle.sizes.specs.Partition.{blocks-of}
-use Rattle.sizes.specs.declared.partition.Sizes.{Sizes}
+use Rattle.sizes.specs.Limits.{toi-entries, object-slots, waiting-fdts, longest-store}
 use Rattle.sizes.specs.Toi.{Toi}
 use Rattle.lifecycle.specs.Parts.{part-end, shares}
 use Rattle.lifecycle.specs.declared.parts.Part.{Part}
@@ -72,15 +70,9 @@ came s d (c ∷ l) j = came s (step s d c .1) l (grown s d c j)
 
 -- ---- sizes and parts
 
--- E, B and the block count of l bytes are in their ranges: what refusal 4 leaves
-pub record InRange (z : Sizes) (l : ℕ) : Type 0 where
-  pub symbol : (1 ≤ z .e) × (z .e ≤ largest-symbol)
-  pub block : (1 ≤ z .b) × (z .b ≤ largest-block)
-  pub count : blocks-of z l .blocks ≤ most-blocks
-
 -- an object is as refusals 4 and 5 let it in
 pub record Admitted (s : Setup) (o : Object) : Type 0 where
-  pub blocks : bad-blocks (o .sizes) (o .part .size) ≡ false  -- so they are InRange
+  pub blocks : bad-blocks (o .sizes) (o .part .size) ≡ false  -- so E, B and the block count are in their ranges
   pub inside : part-end (o .part) ≤ s .object-store
   pub short : o .part .size ≤ longest-store
 

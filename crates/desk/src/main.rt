@@ -1,4 +1,4 @@
 // Plays the script of standard input on a sender: an answer for each command.
 fn main() {
-    desk_lines::serve();
+    desk_program::serve();
 }

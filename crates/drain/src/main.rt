@@ -4,6 +4,6 @@ use libc::STDIN_FILENO;
 fn main() {
     let mut space = io::large_buffer();
     let buf: &mut [u8] = &mut space;
-    let at = text::take_line(STDIN_FILENO, buf, text::unread());
-    drain_lines::answer(text::part(buf, at.start, at.end));
+    let lines = text::open_lines(STDIN_FILENO, buf);
+    drain_program::answer(text::this_line(buf, lines));
 }

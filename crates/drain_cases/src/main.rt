@@ -5,14 +5,9 @@ use libc::STDIN_FILENO;
 fn main() {
     let mut space = io::large_buffer();
     let buf: &mut [u8] = &mut space;
-    let mut at = text::unread();
-    let mut turns = u64::MAX;
-    while turns > 0 {
-        at = text::take_line(STDIN_FILENO, buf, at);
-        if at.over {
-            return;
-        }
-        drain_lines::answer(text::part(buf, at.start, at.end));
-        turns -= 1;
+    let mut lines = text::open_lines(STDIN_FILENO, buf);
+    while 0 < lines.left {
+        drain_program::answer(text::this_line(buf, lines));
+        lines = text::next_line(STDIN_FILENO, buf, lines);
     }
 }

@@ -1,4 +1,4 @@
--- Laws of the FDT side: what each function makes of it in the definition's words, and that it keeps FdtValid.
+-- Laws of the FDT side: what each function makes of it in the definition's words, and that the FDT side stays valid.
 use mathlib.Core.Path.{_≡_, refl, sym, _∙_, ap, subst}
 use mathlib.Core.Bool.{Bool, true, false, not, _&&_, _||_, true≢false}
 use mathlib.Core.Option.{none, some}
@@ -23,20 +23,20 @@ use Rattle.lifecycle.specs.Setup.{Setup}
 use Rattle.lifecycle.specs.FileDesc.{time-of, plan-of, life-of, started-life, done-life}
 use Rattle.lifecycle.specs.Fdt as Def
 use Rattle.lifecycle.specs.Fdt.{FdtState, fdt-plan, fdt-parts, bad-fdt-part, queued, seconds, runs-out, needs-new, takes-draft, republished, front-taken, with-current, start-current, next-fdt, fdt-done}
-use Rattle.lifecycle.specs.Announce.{instance-of, waiting-of, state-of, draft-given, answer-of, no-instance, FdtValid, fdt-rule, needs-new-of, first-instance, queued-of, front-of, started-instance, done-instance, holding, start-of, republished-of, transferring-of, next-of, done-of, waits-of, held-of, shares-fdt-of, bad-fdt-of, opening-of}
+use Rattle.lifecycle.specs.Announce.{instance-of, waiting-of, state-of, draft-given, next-told, no-instance, ValidAnnouncer, fdt-plan-of, needs-new-of, first-instance, queued-of, front-of, started-instance, done-instance, holding, start-of, republished-of, transferring-of, next-of, current-done, waits-of, held-of, shares-fdt-of, bad-fdt-of, new-announcer}
 use Rattle.lifecycle.specs.declared.parts.Part.{Part}
-use Rattle.lifecycle.specs.declared.filedesc.Rule.{Rule}
+use Rattle.lifecycle.specs.declared.filedesc.Plan.{Plan}
 use Rattle.lifecycle.specs.declared.announce.Instance.{Instance}
 use Rattle.lifecycle.specs.declared.announce.Announcer.{Announcer}
-use Rattle.lifecycle.specs.declared.announce.NextFdt.{NextFdt}
+use Rattle.lifecycle.specs.declared.announce.NextInstance.{NextInstance}
 use Rattle.lifecycle.specs.declared.announce.Draft.{Draft}
 use Rattle.lifecycle.specs.declared.announce.Draft.the-variants.{Given, Missing}
 
--- ---- the rule and the validity
+-- ---- the plan and the validity
 
--- the rule of every FDT says the plan of the set-up whose carousel the flags name
-pub rule-said : (s : Setup) (start : Bool) (d : ℕ) → s .carousel ≡ (if start then Carousel.interval d else Carousel.delay d) → plan-of (fdt-rule start d) ≡ fdt-plan s
-rule-said s start d e = rw e
+-- the plan of every FDT, as the code has it, is the definition's, with the carousel that the flags name
+pub plan-said : (s : Setup) (start : Bool) (d : ℕ) → s .carousel ≡ (if start then Carousel.interval d else Carousel.delay d) → plan-of (fdt-plan-of start d) ≡ fdt-plan s
+plan-said s start d e = rw e
 
 -- a validity of at most 10 seconds, of at most 30, above 30
 module _ (d e : ℕ) where
@@ -73,9 +73,9 @@ or-false : (x : Bool) → (x || false) ≡ x
 or-false true = refl
 or-false false = refl
 
--- ---- FdtValid is kept
+-- ---- the FDT side stays valid
 
-pub valid-opening : (id : ℕ) → id ≤ largest-fdt-id → FdtValid (opening-of id)
+pub valid-opening : (id : ℕ) → id ≤ largest-fdt-id → ValidAnnouncer (new-announcer id)
 valid-opening id h =
     record {
       sized = refl;
@@ -91,11 +91,11 @@ valid-opening id h =
     zeros (suc k) zero = refl
     zeros (suc k) (suc i) = zeros k i
 
-module _ (a : Announcer) (v : FdtValid a) where
+module _ (a : Announcer) (v : ValidAnnouncer a) where
   long : a .waiting ≤ length (a .queue)
   long = let g = v .sized in let r = v .room in omega arith
 
-  pub valid-queued : (now : ℕ) (c : Part) → a .waiting < waiting-fdts → FdtValid (queued-of now c a)
+  pub valid-queued : (now : ℕ) (c : Part) → a .waiting < waiting-fdts → ValidAnnouncer (queued-of now c a)
   unfolding queued-of
   valid-queued now c h =
       let g = v .sized in
@@ -117,11 +117,11 @@ module _ (a : Announcer) (v : FdtValid a) where
           ap (λ (x : Instance). x .life .transferring) (getD-set-other (a .queue) (a .waiting) i _ no-instance n)
           ∙ v .idle i (omega (arith, n))
 
-  pub valid-front : FdtValid (front-of a)
+  pub valid-front : ValidAnnouncer (front-of a)
   unfolding front-of
   valid-front = go (tested (eqb (a .waiting) 0))
     where
-      go : Tested (eqb (a .waiting) 0) → FdtValid (front-of a)
+      go : Tested (eqb (a .waiting) 0) → ValidAnnouncer (front-of a)
       go (pass e) = rw e v
       go (fail e) =
           let n = eqb-false (a .waiting) 0 e in
@@ -134,7 +134,7 @@ module _ (a : Announcer) (v : FdtValid a) where
             idle = λ i g. ap (λ (x : Instance). x .life .transferring) (getD-shut no-instance (a .queue) 0 i (omega arith)) ∙ v .idle (suc i) (omega arith);
           })
 
-  valid-holding : (i : Instance) → a .«has_current» ≡ true → FdtValid (holding a i)
+  valid-holding : (i : Instance) → a .«has_current» ≡ true → ValidAnnouncer (holding a i)
   valid-holding i e = record {
     sized = v .sized;
     room = v .room;
@@ -144,36 +144,36 @@ module _ (a : Announcer) (v : FdtValid a) where
     idle = v .idle;
   }
 
-  pub valid-start : (r : Rule) (now : ℕ) (taken : Bool) → FdtValid (start-of r now taken a .announcer)
+  pub valid-start : (r : Plan) (now : ℕ) (taken : Bool) → ValidAnnouncer (start-of r now taken a .announcer)
   unfolding start-of
   valid-start r now taken = go (tested (a .«has_current» && may-start (plan-of r) now (life-of (a .current .life))))
     where
-      go : Tested (a .«has_current» && may-start (plan-of r) now (life-of (a .current .life))) → FdtValid (start-of r now taken a .announcer)
+      go : Tested (a .«has_current» && may-start (plan-of r) now (life-of (a .current .life))) → ValidAnnouncer (start-of r now taken a .announcer)
       go (pass e) = rw e (valid-holding (started-instance r now (a .current)) (and-left (a .«has_current») (may-start (plan-of r) now (life-of (a .current .life))) e))
       go (fail e) = rw e v
 
-  pub valid-republished : (validity now : ℕ) (draft : Draft) → FdtValid (republished-of validity now draft a)
+  pub valid-republished : (validity now : ℕ) (draft : Draft) → ValidAnnouncer (republished-of validity now draft a)
   unfolding republished-of
   valid-republished validity now draft = go draft (tested (needs-new-of validity now a))
     where
-      go : (d : Draft) → Tested (needs-new-of validity now a) → FdtValid (republished-of validity now d a)
+      go : (d : Draft) → Tested (needs-new-of validity now a) → ValidAnnouncer (republished-of validity now d a)
       go (Given c) (pass e) = rw e (valid-queued now c (let z = needed-empty validity now a e in omega arith))
       go Missing (pass e) = rw e v
       go d (fail e) = rw e v
 
-  pub valid-done : (now : ℕ) → FdtValid (done-of now a)
-  unfolding done-of
+  pub valid-done : (now : ℕ) → ValidAnnouncer (current-done now a)
+  unfolding current-done
   valid-done now = go (tested (a .«has_current»))
     where
-      go : Tested (a .«has_current») → FdtValid (done-of now a)
-      go (pass e) = subst (λ b. FdtValid (if b then holding a (done-instance now (a .current)) else a)) (sym e) (valid-holding (done-instance now (a .current)) e)
-      go (fail e) = subst (λ b. FdtValid (if b then holding a (done-instance now (a .current)) else a)) (sym e) v
+      go : Tested (a .«has_current») → ValidAnnouncer (current-done now a)
+      go (pass e) = subst (λ b. ValidAnnouncer (if b then holding a (done-instance now (a .current)) else a)) (sym e) (valid-holding (done-instance now (a .current)) e)
+      go (fail e) = subst (λ b. ValidAnnouncer (if b then holding a (done-instance now (a .current)) else a)) (sym e) v
 
-pub valid-next : (a : Announcer) → FdtValid a → (r : Rule) (validity now : ℕ) (draft : Draft) → FdtValid (next-of r validity now draft a .announcer)
+pub valid-next : (a : Announcer) → ValidAnnouncer a → (r : Plan) (validity now : ℕ) (draft : Draft) → ValidAnnouncer (next-of r validity now draft a .announcer)
 unfolding next-of
 valid-next a v r validity now draft = go (tested (transferring-of a))
   where
-    go : Tested (transferring-of a) → FdtValid (next-of r validity now draft a .announcer)
+    go : Tested (transferring-of a) → ValidAnnouncer (next-of r validity now draft a .announcer)
     go (pass e) = rw e v
     go (fail e) = rw e (valid-start (front-of (republished-of validity now draft a)) (valid-front (republished-of validity now draft a) (valid-republished a v validity now draft)) r now (needs-new-of validity now a && given (draft-given draft)))
 
@@ -242,7 +242,7 @@ module _ (a : Announcer) where
       go (fail e) = rw e
 
 -- one FDT that starts, and one that ends
-instance-started : (s : Setup) (r : Rule) (now : ℕ) (i : Instance) → plan-of r ≡ fdt-plan s → instance-of (started-instance r now i) ≡ begun s now (instance-of i)
+instance-started : (s : Setup) (r : Plan) (now : ℕ) (i : Instance) → plan-of r ≡ fdt-plan s → instance-of (started-instance r now i) ≡ begun s now (instance-of i)
 unfolding started-life
 instance-started s r now i e =
     ap (λ x. record { id = i .id; part = i .part; life = x; transferring = true }) (life-started r now (i .life) ∙ ap (λ p. started p now (life-of (i .life))) e)
@@ -252,52 +252,52 @@ unfolding done-life
 instance-done now i = ap (λ x. record { id = i .id; part = i .part; life = x; transferring = false }) (life-done now (i .life))
 
 -- done
-pub state-done : (now : ℕ) (a : Announcer) → state-of (done-of now a) ≡ fdt-done now (state-of a)
-unfolding done-of
+pub state-done : (now : ℕ) (a : Announcer) → state-of (current-done now a) ≡ fdt-done now (state-of a)
+unfolding current-done
 state-done now a = go (tested (a .«has_current»))
   where
-    step : (b : Bool) → a .«has_current» ≡ b → state-of (done-of now a) ≡ state-of (if b then holding a (done-instance now (a .current)) else a)
+    step : (b : Bool) → a .«has_current» ≡ b → state-of (current-done now a) ≡ state-of (if b then holding a (done-instance now (a .current)) else a)
     step b e = ap (λ b. state-of (if b then holding a (done-instance now (a .current)) else a)) e
 
-    go : Tested (a .«has_current») → state-of (done-of now a) ≡ fdt-done now (state-of a)
+    go : Tested (a .«has_current») → state-of (current-done now a) ≡ fdt-done now (state-of a)
     go (fail e) = step false e ∙ sym (done-none (state-of a) now (current-none a e))
     go (pass e) =
         step true e ∙ state-holding a (done-instance now (a .current)) e ∙ ap (with-current (state-of a)) (instance-done now (a .current))
         ∙ sym (done-some (state-of a) now (instance-of (a .current)) (current-some a e))
 
 -- may the current one start
-pub starts-said : (s : Setup) (r : Rule) (now : ℕ) (taken : Bool) (a : Announcer) → plan-of r ≡ fdt-plan s
-    → answer-of (start-of r now taken a) ≡ start-current s now taken (state-of a)
-unfolding start-of answer-of
+pub starts-said : (s : Setup) (r : Plan) (now : ℕ) (taken : Bool) (a : Announcer) → plan-of r ≡ fdt-plan s
+    → next-told (start-of r now taken a) ≡ start-current s now taken (state-of a)
+unfolding start-of next-told
 starts-said s r now taken a p = go (tested (a .«has_current»)) (tested (may-start (plan-of r) now (life-of (a .current .life))))
   where
     may : Bool
     may = may-start (plan-of r) now (life-of (a .current .life))
 
-    pick : Bool → NextFdt
+    pick : Bool → NextInstance
     pick b = if b then record { taken = taken; starts = true; announcer = holding a (started-instance r now (a .current)) } else record { taken = taken; starts = false; announcer = a }
 
-    stays : answer-of (pick false) ≡ record { taken = taken; state = state-of a; starts = none }
+    stays : next-told (pick false) ≡ record { taken = taken; state = state-of a; starts = none }
     stays = refl
 
-    starts : a .«has_current» ≡ true → answer-of (pick true) ≡ record { taken = taken; state = with-current (state-of a) (begun s now (instance-of (a .current))); starts = some (begun s now (instance-of (a .current))) }
+    starts : a .«has_current» ≡ true → next-told (pick true) ≡ record { taken = taken; state = with-current (state-of a) (begun s now (instance-of (a .current))); starts = some (begun s now (instance-of (a .current))) }
     starts e =
         ap (λ x. record { taken = taken; state = x; starts = some (instance-of (started-instance r now (a .current))) }) (state-holding a (started-instance r now (a .current)) e)
         ∙ ap (λ i. record { taken = taken; state = with-current (state-of a) i; starts = some i }) (instance-started s r now (a .current) p)
 
-    both : (x y : Bool) → a .«has_current» ≡ x → may ≡ y → answer-of (start-of r now taken a) ≡ answer-of (pick (x && y))
-    both x y e q = ap (λ b. answer-of (pick (b && may))) e ∙ ap (λ b. answer-of (pick (x && b))) q
+    both : (x y : Bool) → a .«has_current» ≡ x → may ≡ y → next-told (start-of r now taken a) ≡ next-told (pick (x && y))
+    both x y e q = ap (λ b. next-told (pick (b && may))) e ∙ ap (λ b. next-told (pick (x && b))) q
 
     plan : (y : Bool) → may ≡ y → may-start (fdt-plan s) now (life-of (a .current .life)) ≡ y
     plan y q = sym (ap (λ p. may-start p now (life-of (a .current .life))) p) ∙ q
 
-    go : Tested (a .«has_current») → Tested may → answer-of (start-of r now taken a) ≡ start-current s now taken (state-of a)
+    go : Tested (a .«has_current») → Tested may → next-told (start-of r now taken a) ≡ start-current s now taken (state-of a)
     go (fail e) (pass q) = both false true e q ∙ stays ∙ sym (start-none (state-of a) s now taken (current-none a e))
     go (fail e) (fail q) = both false false e q ∙ stays ∙ sym (start-none (state-of a) s now taken (current-none a e))
     go (pass e) (fail q) = both true false e q ∙ stays ∙ sym (start-idle (state-of a) s now taken (instance-of (a .current)) (current-some a e) (plan false q))
     go (pass e) (pass q) = both true true e q ∙ starts e ∙ sym (start-on (state-of a) s now taken (instance-of (a .current)) (current-some a e) (plan true q))
 
-module _ (a : Announcer) (v : FdtValid a) where
+module _ (a : Announcer) (v : ValidAnnouncer a) where
   -- as many wait as the code says
   pub waiting-length : length (state-of a .waiting) ≡ a .waiting
   unfolding state-of
@@ -356,20 +356,20 @@ module _ (a : Announcer) (v : FdtValid a) where
   unfolding takes-draft
   takes-said s validity now draft p = rw (needs-said s validity now p)
 
-said-still : (a : Announcer) → answer-of (record { taken = false; starts = false; announcer = a }) ≡ record { taken = false; state = state-of a; starts = none }
-unfolding answer-of
+said-still : (a : Announcer) → next-told (record { taken = false; starts = false; announcer = a }) ≡ record { taken = false; state = state-of a; starts = none }
+unfolding next-told
 said-still a = refl
 
 -- the next FDT: taken, state and what starts are the definition's
-pub next-said : (a : Announcer) → FdtValid a → (s : Setup) (r : Rule) (validity now : ℕ) (draft : Draft) → s .validity ≡ validity → plan-of r ≡ fdt-plan s
-    → answer-of (next-of r validity now draft a) ≡ next-fdt s now (draft-given draft) (state-of a)
+pub next-said : (a : Announcer) → ValidAnnouncer a → (s : Setup) (r : Plan) (validity now : ℕ) (draft : Draft) → s .validity ≡ validity → plan-of r ≡ fdt-plan s
+    → next-told (next-of r validity now draft a) ≡ next-fdt s now (draft-given draft) (state-of a)
 unfolding next-of next-fdt
 next-said a v s r validity now draft e p = go (tested (transferring-of a))
   where
     b : Announcer
     b = republished-of validity now draft a
 
-    go : Tested (transferring-of a) → answer-of (next-of r validity now draft a) ≡ next-fdt s now (draft-given draft) (state-of a)
+    go : Tested (transferring-of a) → next-told (next-of r validity now draft a) ≡ next-fdt s now (draft-given draft) (state-of a)
     go (pass q) = rw (← busy-said a, q) (said-still a)
     go (fail q) =
         rw (← busy-said a, q)
@@ -378,19 +378,19 @@ next-said a v s r validity now draft e p = go (tested (transferring-of a))
         ∙ ap (λ t. start-current s now t (front-taken (republished s now (draft-given draft) (state-of a)))) (takes-said a v s validity now draft e))
 
 -- the same, part by part
-module _ (a : Announcer) (v : FdtValid a) (s : Setup) (r : Rule) (validity now : ℕ) (draft : Draft) (e : s .validity ≡ validity) (p : plan-of r ≡ fdt-plan s) where
+module _ (a : Announcer) (v : ValidAnnouncer a) (s : Setup) (r : Plan) (validity now : ℕ) (draft : Draft) (e : s .validity ≡ validity) (p : plan-of r ≡ fdt-plan s) where
   pub next-taken : next-of r validity now draft a .taken ≡ next-fdt s now (draft-given draft) (state-of a) .taken
-  unfolding answer-of
+  unfolding next-told
   next-taken = ap (λ (x : Def.Next). x .taken) (next-said a v s r validity now draft e p)
 
   pub next-state : state-of (next-of r validity now draft a .announcer) ≡ next-fdt s now (draft-given draft) (state-of a) .state
-  unfolding answer-of
+  unfolding next-told
   next-state = ap (λ (x : Def.Next). x .state) (next-said a v s r validity now draft e p)
 
   -- what starts is given exactly where the code says so, and is the new current one
   pub next-starts : (if next-of r validity now draft a .starts then some (instance-of (next-of r validity now draft a .announcer .current)) else none)
       ≡ next-fdt s now (draft-given draft) (state-of a) .starts
-  unfolding answer-of
+  unfolding next-told
   next-starts = ap (λ (x : Def.Next). x .starts) (next-said a v s r validity now draft e p)
 
 -- ---- parts that are held

@@ -11,22 +11,22 @@ use lib.ListN.{set}
 use lib.Seq.{getD-set-same}
 use Rattle.sizes.specs.Words.{if_then_else_, maybe, over, given, keep, find, at, cut, place, one-if, times, Counts}
 use Rattle.sizes.specs.Allocator as Alloc
-use Rattle.sizes.proofs.Tests.{and-left, and-right}
+use Rattle.sizes.proofs.Tests.{and-left, and-right, if-on, maybe-on}
 use Rattle.sizes.proofs.Lists.{Sought, hit, miss, sought, found-none, at-get, any-map, map-cut}
-use Rattle.sizes.proofs.Tables.{times-at, times-cut, keep-all, keep-cut, find-map, find-any, any-in, any-none, other}
+use Rattle.sizes.proofs.Tables.{one-true, times-at, times-cut, keep-all, keep-cut, find-map, find-any, any-in, any-none, other}
 use Rattle.sizes.proofs.Collects.{at-inside}
 use Rattle.sizes.proofs.AllocatorViews.{freed-view}
 use Rattle.lifecycle.specs.FileDesc.{life-of, with-life, reset-life}
 use Rattle.lifecycle.specs.Slots.{no-slot, slot-at, is-listed-as}
-use Rattle.lifecycle.specs.FdtCalls.{waiting, files, sends, used, waits, Valid, listed-place, transfers-of, unlisted-of, freed-of, removed-of, triggered-of}
+use Rattle.lifecycle.specs.FdtCalls.{file-at, waiting, files, sends, used, waits, ValidFdt, listed-place, transfers-of, unlisted-of, freed-of, removed-of, triggered-of}
 use Rattle.lifecycle.specs.FdtCalls.{unlisted-slot}
-use Rattle.lifecycle.specs.FdtMeans.{file-at, is-not, Listed, listed-files, Removal, nobody, sent, waited, listed-but, ListRemoves, reset-file, Triggers}
+use Rattle.lifecycle.proofs.FdtMeans.{is-not, Listed, listed-files, Removal, nobody, sent, waited, listed-but, ListRemoves, reset-file, Triggers}
 use Rattle.lifecycle.specs.declared.filedesc.Time.{Time}
 use Rattle.lifecycle.specs.declared.filedesc.FileDesc.{FileDesc}
 use Rattle.lifecycle.specs.declared.slots.Slot.{Slot}
 use Rattle.lifecycle.specs.declared.fdt.Fdt.{Fdt}
-use Rattle.lifecycle.specs.declared.fdt.Told.{Told}
-use Rattle.lifecycle.proofs.FdtFacts.{maybe-on, if-on, one-true, used-listed, used-sends, waits-not, listed-at, waits-at, absent, number-held, queue-place}
+use Rattle.lifecycle.specs.declared.fdt.Touched.{Touched}
+use Rattle.lifecycle.proofs.FdtFacts.{used-listed, used-sends, waits-not, listed-at, waits-at, absent, number-held, queue-place}
 use Rattle.lifecycle.proofs.FdtViews.{differs, map-two, not-in, none-at, no-right, apart, others, in-waiting, waiting-used, at-each, seen-aside, seen-leaves}
 
 -- ---- a number that is looked for
@@ -36,7 +36,7 @@ pub none-listed : (t : ℕ) (f : Fdt) → listed-place t f ≡ none → (k : ℕ
 unfolding is-listed-as
 none-listed t f e = none-at no-slot (is-listed-as t) (f .slots) e refl
 
-module _ (t : ℕ) (f : Fdt) (v : Valid f) where
+module _ (t : ℕ) (f : Fdt) (v : ValidFdt f) where
   -- so no object that waits has it
   none-waits : listed-place t f ≡ none → (j : ℕ) → 1 ≤ times j (waiting f) → eqb (file-at (f .slots) j .toi) t ≡ false
   unfolding is-listed-as
@@ -69,27 +69,40 @@ module _ (t : ℕ) (f : Fdt) (v : Valid f) where
 
 -- ---- remove
 
-pub removed-cases : (t : ℕ) (f : Fdt) → Valid f → Removal t f (removed-of t f)
+pub removed-cases : (t : ℕ) (f : Fdt) → ValidFdt f → Removal t f (removed-of t f)
 unfolding removed-of unlisted-of freed-of
 removed-cases t f v = maybe-on (Removal t f) (listed-place t f)
-    (λ e. nobody (none-listed t f e) (keep-none t f v (none-waits t f v e)) refl)
+    (λ e. nobody (record { unlisted = none-listed t f e; queue = keep-none t f v (none-waits t f v e); unchanged = refl }))
     (λ k e.
     let li = listed-at t f k e in
     let y = slot-at (f .slots) k in
     if-on (λ g. Removal t f (record { yes = true; fdt = g })) (sends y)
-    (λ s. sent k li s (keep-none t f v (sent-waits t f v k li s)) refl refl (seen-aside f v k (li .inn) (unlisted-slot y) (f .tois) (waits-not y s)))
+    (λ s. sent k (record {
+      found = li;
+      is-sent = s;
+      queue = keep-none t f v (sent-waits t f v k li s);
+      answer = refl;
+      tois = refl;
+      view = seen-aside f v k (li .inn) (unlisted-slot y) (f .tois) (waits-not y s);
+    }))
     (λ s. maybe-on (λ g. Removal t f (record { yes = true; fdt = g })) (place (λ j. eqb j k) (waiting f))
     (λ q. absurd (in-queue t f v k li s q))
     (λ n q.
     let st = queue-place f v k n q in
     let nu = subst (λ m. 1 ≤ times m (Alloc.bound (f .tois))) (li .number) (number-held f v k (li .inn) (used-listed y (li .is-listed))) in
-    waited k n li (waits-at f v n k st) (cut-keep t f v k n li st) refl (freed-view (f .tois) (v .tois) t nu)
-    (seen-leaves f v k (li .inn) no-slot (Alloc.dropped-of false t (f .tois) .allocator) n st))))
+    waited k n (record {
+      found = li;
+      waits = waits-at f v n k st;
+      queue = cut-keep t f v k n li st;
+      answer = refl;
+      number = freed-view (f .tois) (v .tois) t nu;
+      view = seen-leaves f v k (li .inn) no-slot (Alloc.dropped-of false t (f .tois) .allocator) n st;
+    }))))
 
 -- the answer
 pub removed-answer : (t : ℕ) (f : Fdt) → removed-of t f .yes ≡ given (listed-place t f)
 unfolding removed-of
-removed-answer t f = maybe-on (λ (x : Told). x .yes ≡ given (listed-place t f)) (listed-place t f) (λ e. sym (ap given e)) (λ k e. sym (ap given e))
+removed-answer t f = maybe-on (λ (x : Touched). x .yes ≡ given (listed-place t f)) (listed-place t f) (λ e. sym (ap given e)) (λ k e. sym (ap given e))
 
 still : (a b : Bool) → (a && b) ≡ false → a ≡ (a && not b)
 still true b e = sym (ap not e)
@@ -103,39 +116,39 @@ dropped : (a b : Bool) → b ≡ true → false ≡ (a && not b)
 dropped true b e = sym (ap not e)
 dropped false b e = refl
 
-pub removed-view : (t : ℕ) (f : Fdt) → Valid f → ListRemoves t f (removed-of t f .fdt)
+pub removed-view : (t : ℕ) (f : Fdt) → ValidFdt f → ListRemoves t f (removed-of t f .fdt)
 unfolding is-listed-as
 removed-view t f v = go (removed-of t f) (removed-cases t f v)
   where
-    go : (r : Told) → Removal t f r → ListRemoves t f (r .fdt)
-    go r (nobody a q e) = subst (λ (x : Told). ListRemoves t f (x .fdt)) (sym e) (record {
-      queue = q;
+    go : (r : Touched) → Removal t f r → ListRemoves t f (r .fdt)
+    go r (nobody h) = subst (λ (x : Touched). ListRemoves t f (x .fdt)) (sym (h .unchanged)) (record {
+      queue = h .queue;
       sent-same = λ j. refl;
       file-same = λ j s. refl;
-      unlists = λ j s. (let y = slot-at (f .slots) j in still (y .listed) (eqb (y .file .toi) t) (a j));
+      unlists = λ j s. (let y = slot-at (f .slots) j in still (y .listed) (eqb (y .file .toi) t) (h .unlisted j));
     })
-    go r (sent k li s q y c w) = record {
-      queue = w .queue ∙ q;
-      sent-same = at-each (λ j. sends (slot-at (r .fdt .slots) j) ≡ sends (slot-at (f .slots) j)) k (ap sends (w .new)) (λ j n. ap sends (w .same j n));
+    go r (sent k h) = record {
+      queue = h .view .queue ∙ h .queue;
+      sent-same = at-each (λ j. sends (slot-at (r .fdt .slots) j) ≡ sends (slot-at (f .slots) j)) k (ap sends (h .view .new)) (λ j n. ap sends (h .view .same j n));
       file-same = at-each (λ j. sends (slot-at (f .slots) j) ≡ true → file-at (r .fdt .slots) j ≡ file-at (f .slots) j) k
-          (λ z. ap (λ (x : Slot). x .file) (w .new)) (λ j n z. ap (λ (x : Slot). x .file) (w .same j n));
+          (λ z. ap (λ (x : Slot). x .file) (h .view .new)) (λ j n z. ap (λ (x : Slot). x .file) (h .view .same j n));
       unlists = at-each (λ j. sends (slot-at (f .slots) j) ≡ true → slot-at (r .fdt .slots) j .listed ≡ listed-but t (slot-at (f .slots) j)) k
-          (λ z. ap (λ (x : Slot). x .listed) (w .new) ∙ dropped (slot-at (f .slots) k .listed) (eqb (file-at (f .slots) k .toi) t) (eq-eqb (file-at (f .slots) k .toi) t (li .number)))
-          (λ j n z. ap (λ (x : Slot). x .listed) (w .same j n) ∙ kept (slot-at (f .slots) j .listed) (eqb (file-at (f .slots) j .toi) t) (others f v t k li j (used-sends (slot-at (f .slots) j) z) n));
+          (λ z. ap (λ (x : Slot). x .listed) (h .view .new) ∙ dropped (slot-at (f .slots) k .listed) (eqb (file-at (f .slots) k .toi) t) (eq-eqb (file-at (f .slots) k .toi) t (h .found .number)))
+          (λ j n z. ap (λ (x : Slot). x .listed) (h .view .same j n) ∙ kept (slot-at (f .slots) j .listed) (eqb (file-at (f .slots) j .toi) t) (others f v t k (h .found) j (used-sends (slot-at (f .slots) j) z) n));
     }
-    go r (waited k n li h q y c w) = record {
-      queue = w .queue ∙ q;
-      sent-same = at-each (λ j. sends (slot-at (r .fdt .slots) j) ≡ sends (slot-at (f .slots) j)) k (ap sends (w .new) ∙ sym (h .unsent)) (λ j n. ap sends (w .same j n));
+    go r (waited k m h) = record {
+      queue = h .view .queue ∙ h .queue;
+      sent-same = at-each (λ j. sends (slot-at (r .fdt .slots) j) ≡ sends (slot-at (f .slots) j)) k (ap sends (h .view .new) ∙ sym (h .waits .unsent)) (λ j n. ap sends (h .view .same j n));
       file-same = at-each (λ j. sends (slot-at (f .slots) j) ≡ true → file-at (r .fdt .slots) j ≡ file-at (f .slots) j) k
-          (λ z. absurd (false≢true (sym (h .unsent) ∙ z))) (λ j n z. ap (λ (x : Slot). x .file) (w .same j n));
+          (λ z. absurd (false≢true (sym (h .waits .unsent) ∙ z))) (λ j n z. ap (λ (x : Slot). x .file) (h .view .same j n));
       unlists = at-each (λ j. sends (slot-at (f .slots) j) ≡ true → slot-at (r .fdt .slots) j .listed ≡ listed-but t (slot-at (f .slots) j)) k
-          (λ z. absurd (false≢true (sym (h .unsent) ∙ z)))
-          (λ j n z. ap (λ (x : Slot). x .listed) (w .same j n) ∙ kept (slot-at (f .slots) j .listed) (eqb (file-at (f .slots) j .toi) t) (others f v t k li j (used-sends (slot-at (f .slots) j) z) n));
+          (λ z. absurd (false≢true (sym (h .waits .unsent) ∙ z)))
+          (λ j n z. ap (λ (x : Slot). x .listed) (h .view .same j n) ∙ kept (slot-at (f .slots) j .listed) (eqb (file-at (f .slots) j .toi) t) (others f v t k (h .found) j (used-sends (slot-at (f .slots) j) z) n));
     }
 
 -- ---- trigger
 
-module _ (t : ℕ) (start : Time) (f : Fdt) (v : Valid f) where
+module _ (t : ℕ) (start : Time) (f : Fdt) (v : ValidFdt f) where
   reset-other : (o : FileDesc) → eqb (o .toi) t ≡ false → o ≡ reset-file t start o
   reset-other o e = rw e
 
@@ -152,7 +165,7 @@ module _ (t : ℕ) (start : Time) (f : Fdt) (v : Valid f) where
 
   pub triggered-view : Triggers t start f (triggered-of t start f .fdt)
   unfolding triggered-of reset-life
-  triggered-view = maybe-on (λ (x : Told). Triggers t start f (x .fdt)) (listed-place t f)
+  triggered-view = maybe-on (λ (x : Touched). Triggers t start f (x .fdt)) (listed-place t f)
       (λ e. triggers-none (none-waits t f v e))
       (λ k e.
       let li = listed-at t f k e in
@@ -176,11 +189,11 @@ module _ (t : ℕ) (start : Time) (f : Fdt) (v : Valid f) where
   -- the answer
   pub triggered-answer : triggered-of t start f .yes ≡ given (listed-place t f)
   unfolding triggered-of
-  triggered-answer = maybe-on (λ (x : Told). x .yes ≡ given (listed-place t f)) (listed-place t f) (λ e. sym (ap given e)) (λ k e. sym (ap given e))
+  triggered-answer = maybe-on (λ (x : Touched). x .yes ≡ given (listed-place t f)) (listed-place t f) (λ e. sym (ap given e)) (λ k e. sym (ap given e))
 
 -- ---- the object with a number
 
-given-none : {A : Type 0} (o : Option A) → given o ≡ false → o ≡ none
+pub given-none : {A : Type 0} (o : Option A) → given o ≡ false → o ≡ none
 given-none none e = refl
 given-none (some a) e = absurd (true≢false e)
 
@@ -217,7 +230,7 @@ find-listed t s (k ∷ l) = go (slot-at s k .listed) (eqb (file-at s k .toi) t) 
     go true true e r = rw e
     go true false e r = rw e r
 
-module _ (t : ℕ) (f : Fdt) (v : Valid f) where
+module _ (t : ℕ) (f : Fdt) (v : ValidFdt f) where
   is-toi : FileDesc → Bool
   is-toi o = eqb (o .toi) t
 

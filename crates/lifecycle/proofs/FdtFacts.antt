@@ -10,33 +10,20 @@ use lib.Dec.{eqb}
 use borrow.Author.Tests.{eqb-true, not-true, eq-eqb}
 use lib.ListN.{length, set, getD, take, length-set, length-take}
 use lib.Seq.{getD-set-other, getD-take, take-suc-set}
-use Rattle.sizes.specs.Words.{if_then_else_, maybe, at, cut, place, shut, one-if, times, Counts}
+use Rattle.sizes.specs.Words.{if_then_else_, at, cut, place, shut, one-if, times, Counts}
 use Rattle.sizes.specs.Limits.{object-slots}
 use Rattle.sizes.specs.Allocator as Alloc
 use Rattle.sizes.specs.declared.toiallocator.ToiAllocator.{ToiAllocator}
 use Rattle.sizes.proofs.Tests.{and-left, and-right}
 use Rattle.sizes.proofs.Lists.{found-first, at-get, at-take}
 use Rattle.sizes.proofs.Arrays.{getD-shut, take-shut, length-shut}
-use Rattle.sizes.proofs.Tables.{times-at, times-cut, inside, set-all, tally-lt, counts-length}
+use Rattle.sizes.proofs.Tables.{one-true, times-at, times-cut, inside, set-all, tally-lt, counts-length}
 use Rattle.sizes.proofs.Collects.{adds, at-inside, collect-set, collect-at}
 use Rattle.lifecycle.specs.Slots.{no-slot, slot-at, is-free, is-listed-as}
-use Rattle.lifecycle.specs.FdtCalls.{waiting, sends, used, waits, Tidy, Valid, with-objects, listed-place}
-use Rattle.lifecycle.specs.FdtMeans.{Waits, Free, Listed}
+use Rattle.lifecycle.specs.FdtCalls.{waiting, sends, used, waits, Tidy, ValidFdt, with-objects, listed-place}
+use Rattle.lifecycle.proofs.FdtMeans.{Waits, Free, Listed}
 use Rattle.lifecycle.specs.declared.slots.Slot.{Slot}
 use Rattle.lifecycle.specs.declared.fdt.Fdt.{Fdt}
-
--- what holds of both ends of a choice holds of the choice
-pub maybe-on : {A B : Type 0} (P : B → Type 0) {d : B} {g : A → B} (o : Option A) → (o ≡ none → P d) → ((a : A) → o ≡ some a → P (g a)) → P (maybe d g o)
-maybe-on P none n s = n refl
-maybe-on P (some a) n s = s a refl
-
-pub if-on : {A : Type 0} (P : A → Type 0) (b : Bool) {x y : A} → (b ≡ true → P x) → (b ≡ false → P y) → P (if b then x else y)
-if-on P true t f = t refl
-if-on P false t f = f refl
-
-pub one-true : (b : Bool) → 1 ≤ one-if b → b ≡ true
-one-true true h = refl
-one-true false h = absurd (omega arith)
 
 and-not : (a b : Bool) → b ≡ true → (a && not b) ≡ false
 and-not true b e = ap not e
@@ -89,7 +76,7 @@ free-slot v t e =
     none-if true h = absurd (omega arith)
     none-if false h = refl
 
-module _ (f : Fdt) (v : Valid f) where
+module _ (f : Fdt) (v : ValidFdt f) where
   pub waits-at : (n k : ℕ) → at (waiting f) n ≡ some k → Waits f n k
   waits-at n k e =
       let y = slot-at (f .slots) k in
@@ -108,13 +95,6 @@ module _ (f : Fdt) (v : Valid f) where
         here = sym (getD-take (f .queued) (f .queue) n 0 early) ∙ at-get 0 (waiting f) n k e .0;
         gone = omega arith;
       }
-
-  -- one that is listed or in transfer has a holder
-  pub listed-held : (k : ℕ) → slot-at (f .slots) k .listed ≡ true → 0 < slot-at (f .slots) k .holders
-  listed-held k e = let a = v .tidy k .count in let b = ap one-if e in omega arith
-
-  pub sent-held : (k : ℕ) → sends (slot-at (f .slots) k) ≡ true → 0 < slot-at (f .slots) k .holders
-  sent-held k e = let a = v .tidy k .count in let b = ap one-if e in omega arith
 
   -- one that does not wait is not in the queue, and leaves room in it
   pub absent : (k : ℕ) → waits (slot-at (f .slots) k) ≡ false → times k (waiting f) ≡ 0
@@ -154,7 +134,7 @@ pub record Queue (q : List ℕ) (m : ℕ) : Type 0 where
   pub within : m ≤ object-slots
   pub clear : (i : ℕ) → m ≤ i → getD q i 0 ≡ 0
 
-module _ (f : Fdt) (v : Valid f) where
+module _ (f : Fdt) (v : ValidFdt f) where
   pub queue-same : Queue (f .queue) (f .queued)
   queue-same = record { long = v .queue-long; within = v .queued; clear = v .clear }
 
@@ -185,9 +165,9 @@ module _ (f : Fdt) (v : Valid f) where
   waiting-push k h = rw (add-one (f .queued)) (take-suc-set (f .queue) (f .queued) k h)
 
   -- ---- slot k is changed, and the numbers, the queue and its length may be
-  pub valid-changed : (k : ℕ) → k < length (f .slots) → (w : Slot) (a : ToiAllocator) (q : List ℕ) (m : ℕ) → Tidy w → Alloc.Valid a → Queue q m → Counts no-slot waits (set (f .slots) k w) (take m q)
+  pub valid-changed : (k : ℕ) → k < length (f .slots) → (w : Slot) (a : ToiAllocator) (q : List ℕ) (m : ℕ) → Tidy w → Alloc.ValidAllocator a → Queue q m → Counts no-slot waits (set (f .slots) k w) (take m q)
       → ((n : ℕ) → times n (Alloc.bound a) + adds n (toi-in (slot-at (f .slots) k)) ≡ times n (Alloc.bound (f .tois)) + adds n (toi-in w))
-      → Valid (with-objects f a (set (f .slots) k w) q m)
+      → ValidFdt (with-objects f a (set (f .slots) k w) q m)
   valid-changed k inn w a q m t va qu c o = record {
     tois = va;
     slots-long = length-set (f .slots) k w ∙ v .slots-long;

@@ -1,4 +1,4 @@
--- Laws of the calls of fdt.rt: what Valid tells of slots and queue, and what each call comes to in each of its cases.
+-- Laws of the calls of fdt.rt: what a valid list tells of slots and queue, and what each call comes to in each of its cases.
 use mathlib.Core.Path.{_≡_, refl, sym, _∙_, ap, subst}
 use mathlib.Core.Bool.{Bool, true, false, not, and-false, _&&_}
 use mathlib.Core.Option.{Option, none, some}
@@ -8,35 +8,33 @@ use native.Mathlib.Omega.{arith}
 use lib.Dec.{eqb, ltb}
 use borrow.Author.Tests.{eq-eqb, eqb-true}
 use lib.ListN.{getD, set, List·getD-eq-default}
+use Rattle.sizes.specs.declared.refusal.Refusal.the-variants as Because
 use Rattle.sizes.specs.Words.{has, place, Each, one-if, times}
 use Rattle.sizes.specs.Limits.{object-slots, toi-entries}
 use Rattle.sizes.specs.Allocator as Alloc
 use Rattle.sizes.specs.declared.partition.Sizes.{Sizes}
 use Rattle.sizes.specs.declared.toiallocator.ToiAllocator.{ToiAllocator}
 use Rattle.sizes.specs.declared.toiallocator.Given.the-variants.{Number, Full}
-use Rattle.sizes.proofs.Tests.{Tested, pass, fail, tested}
 use Rattle.sizes.proofs.Lists.{found-first, at-take, at-get}
 use Rattle.sizes.proofs.Arrays.{each-get}
-use Rattle.sizes.proofs.Tables.{inside}
+use Rattle.sizes.proofs.Tables.{one-true, one-most, inside}
+use Rattle.sizes.proofs.AllocatorViews.{allocated-cases}
+use Rattle.sizes.specs.declared.toiallocator.Allocated.{Allocated}
 use Rattle.lifecycle.proofs.FdtFacts as Facts
-use Rattle.lifecycle.proofs.FdtFacts.{one-true, sent-held}
 use Rattle.lifecycle.specs.Lifecycle.{expired}
 use Rattle.lifecycle.specs.FileDesc.{plan-of, life-of, with-life, reset-life}
-use Rattle.lifecycle.specs.Slots.{no-slot, slot-at, place-said, is-free, is-listed-as, queue-startable}
+use Rattle.lifecycle.specs.Slots.{no-slot, slot-at, is-free, is-listed-as, queue-startable}
 use Rattle.lifecycle.specs.Setup.{bad-blocks}
-use Rattle.lifecycle.specs.FdtCalls.{waiting, sends, waits, Valid, with-tois, with-slots, own-of, bad-part-of, put-of, refuses, named-of, fresh-of, numbered-of, added-of, transfers-of, unlisted-of, freed-of, removed-of, triggered-of, taken-at, taken-of, ended-file, goes-back, back-of, let-go-of, done-of}
+use Rattle.lifecycle.specs.FdtCalls.{waiting, sends, waits, ValidFdt, with-tois, with-slots, own-of, bad-part-of, put-of, refuses, named-of, fresh-of, numbered-of, added-of, transfers-of, unlisted-of, freed-of, removed-of, triggered-of, taken-at, taken-of, ended-file, goes-back, back-of, let-go-of, done-of}
 use Rattle.lifecycle.specs.declared.filedesc.Time.{Time}
 use Rattle.lifecycle.specs.declared.slots.Slot.{Slot}
-use Rattle.lifecycle.specs.declared.slots.Place.{Place}
-use Rattle.lifecycle.specs.declared.slots.Place.the-variants.{At, Nothing}
+use Rattle.sizes.specs.Place.{place-said}
+use Rattle.sizes.specs.declared.place.Place.{Place}
+use Rattle.sizes.specs.declared.place.Place.the-variants.{At, Nothing}
 use Rattle.lifecycle.specs.declared.fdt.Fdt.{Fdt}
 use Rattle.lifecycle.specs.declared.fdt.Named.{Named}
 use Rattle.lifecycle.specs.declared.fdt.Request.{Request}
 use Rattle.lifecycle.specs.declared.fdt.Admission.the-variants as AdmissionV
-
-one-most : (b : Bool) → one-if b ≤ 1
-one-most true = omega arith
-one-most false = omega arith
 
 -- what holds of each number that stands in a list
 each-in : (P : ℕ → Type 0) (l : List ℕ) → ((k : ℕ) → 1 ≤ times k l → P k) → Each P l
@@ -50,9 +48,9 @@ said-some e q = sym e ∙ ap place-said q
 pub said-none : {r : Place} {o : Option ℕ} → place-said r ≡ o → r ≡ Nothing → o ≡ none
 said-none e q = sym e ∙ ap place-said q
 
--- ---- what Valid tells
+-- ---- what a valid list tells
 
-module _ (f : Fdt) (v : Valid f) where
+module _ (f : Fdt) (v : ValidFdt f) where
   -- as many hold it as it says, so at most the list and a session
   pub holders-few : (k : ℕ) → slot-at (f .slots) k .holders ≤ 2
   holders-few k =
@@ -61,7 +59,7 @@ module _ (f : Fdt) (v : Valid f) where
 
   -- one that a session sends has a holder
   pub sends-held : (k : ℕ) → sends (slot-at (f .slots) k) ≡ true → 0 < slot-at (f .slots) k .holders
-  sends-held = sent-held f v
+  sends-held k e = let a = v .tidy k .count in let b = ap one-if e in omega arith
 
   -- what passes a test that a free slot fails is a slot
   slot-inside : (p : Slot → Bool) (k : ℕ) → p no-slot ≡ false → p (slot-at (f .slots) k) ≡ true → k < object-slots
@@ -110,12 +108,12 @@ module _ (f : Fdt) (v : Valid f) where
 -- ---- add
 
 module _ (f : Fdt) (q : Request) (z : Sizes) (t : ℕ) where
-  pub named-unknown : has t (Alloc.loose (f .tois)) ≡ false → named-of f q z t ≡ refuses f AdmissionV.Unknown
+  pub named-unknown : has t (Alloc.loose (f .tois)) ≡ false → named-of f q z t ≡ refuses f Because.NotLoose
   unfolding named-of
   named-unknown h = rw h
 
   module _ (h : has t (Alloc.loose (f .tois)) ≡ true) where
-    pub named-none : place is-free (f .slots) ≡ none → named-of f q z t ≡ refuses f AdmissionV.Full
+    pub named-none : place is-free (f .slots) ≡ none → named-of f q z t ≡ refuses f Because.Full
     unfolding named-of
     named-none p = rw (h, p)
 
@@ -126,28 +124,20 @@ module _ (f : Fdt) (q : Request) (z : Sizes) (t : ℕ) where
 
 -- what the allocator says tells whether it is full, and which number it gave
 allocated-full : (flag : Bool) (a : ToiAllocator) → Alloc.allocated-of flag a .answer ≡ Full → ltb (a .entered) toi-entries ≡ false
-unfolding Alloc.allocated-of
-allocated-full flag a e = go (tested (ltb (a .entered) toi-entries))
-  where
-    go : Tested (ltb (a .entered) toi-entries) → ltb (a .entered) toi-entries ≡ false
-    go (pass q) = let n : Number (a .next) ≡ Full = rw q at e in let z : _≡_ {A = ℕ} 0 1 = cc in absurd (omega arith)
-    go (fail q) = q
+allocated-full flag a = allocated-cases (λ (x : Allocated). x .answer ≡ Full → ltb (a .entered) toi-entries ≡ false) flag a
+    (λ q e. let z : _≡_ {A = ℕ} 0 1 = cc in absurd (omega arith)) (λ q e. q)
 
 allocated-some : (flag : Bool) (a : ToiAllocator) (t : ℕ) → Alloc.allocated-of flag a .answer ≡ Number t → (ltb (a .entered) toi-entries ≡ true) × (a .next ≡ t)
-unfolding Alloc.allocated-of
-allocated-some flag a t e = go (tested (ltb (a .entered) toi-entries))
-  where
-    go : Tested (ltb (a .entered) toi-entries) → (ltb (a .entered) toi-entries ≡ true) × (a .next ≡ t)
-    go (pass q) = let n : Number (a .next) ≡ Number t = rw q at e in (q, cc)
-    go (fail q) = let n : Full ≡ Number t = rw q at e in let z : _≡_ {A = ℕ} 0 1 = cc in absurd (omega arith)
+allocated-some flag a t = allocated-cases (λ (x : Allocated). x .answer ≡ Number t → (ltb (a .entered) toi-entries ≡ true) × (a .next ≡ t)) flag a
+    (λ q e. (q, cc)) (λ q e. let z : _≡_ {A = ℕ} 0 1 = cc in absurd (omega arith))
 
 module _ (f : Fdt) (q : Request) (z : Sizes) where
-  pub fresh-none : place is-free (f .slots) ≡ none → fresh-of f q z ≡ refuses f AdmissionV.Full
+  pub fresh-none : place is-free (f .slots) ≡ none → fresh-of f q z ≡ refuses f Because.Full
   unfolding fresh-of
   fresh-none p = rw p
 
   module _ (k : ℕ) (p : place is-free (f .slots) ≡ some k) where
-    pub fresh-full : Alloc.allocated-of false (f .tois) .answer ≡ Full → fresh-of f q z ≡ refuses f AdmissionV.Full
+    pub fresh-full : Alloc.allocated-of false (f .tois) .answer ≡ Full → fresh-of f q z ≡ refuses f Because.Full
     unfolding fresh-of
     fresh-full e = rw (p, allocated-full false (f .tois) e)
 
@@ -157,17 +147,17 @@ module _ (f : Fdt) (q : Request) (z : Sizes) where
     fresh-some t e = let r = allocated-some false (f .tois) t e in rw (p, r .0, r .1)
 
 module _ (f : Fdt) (q : Request) (named : Named) where
-  pub added-complete : f .complete ≡ true → added-of f q named ≡ refuses f AdmissionV.Complete
+  pub added-complete : f .complete ≡ true → added-of f q named ≡ refuses f Because.Complete
   unfolding added-of
   added-complete e = rw e
 
   module _ (o : f .complete ≡ false) where
-    pub added-sizes : bad-blocks (own-of (q .own) (f .settings .sizes)) (q .part .size) ≡ true → added-of f q named ≡ refuses f AdmissionV.Sizes
+    pub added-sizes : bad-blocks (own-of (q .own) (f .settings .sizes)) (q .part .size) ≡ true → added-of f q named ≡ refuses f Because.Sizes
     unfolding added-of
     added-sizes b = rw (b, o)
 
     module _ (b : bad-blocks (own-of (q .own) (f .settings .sizes)) (q .part .size) ≡ false) where
-      pub added-part : bad-part-of f (q .part) ≡ true → added-of f q named ≡ refuses f AdmissionV.Part
+      pub added-part : bad-part-of f (q .part) ≡ true → added-of f q named ≡ refuses f Because.Part
       unfolding added-of
       added-part p = rw (p, b, o)
 
@@ -228,7 +218,7 @@ module _ (p now : ℕ) (f : Fdt) {r : Place} (m : place-said r ≡ place (queue-
   taken-none q = rw (said-none m q)
 
   module _ {n : ℕ} (q : r ≡ At n) where
-    pub startable-found : Valid f → (n < f .queued) × (n < object-slots) × (getD (f .queue) n 0 < object-slots)
+    pub startable-found : ValidFdt f → (n < f .queued) × (n < object-slots) × (getD (f .queue) n 0 < object-slots)
     startable-found v = queue-found f v (queue-startable (f .slots) p now) n (said-some m q)
 
     pub taken-some : taken-of p now f ≡ record { answer = At (getD (f .queue) n 0); fdt = taken-at now f n (getD (f .queue) n 0) }
@@ -242,7 +232,7 @@ module _ (now k : ℕ) (f : Fdt) where
   done-still e = rw e
 
   -- past the end there is none
-  pub done-past : Valid f → object-slots ≤ k → done-of now k f ≡ f
+  pub done-past : ValidFdt f → object-slots ≤ k → done-of now k f ≡ f
   done-past v h = done-still (ap sends (List·getD-eq-default (f .slots) no-slot (let g = v .slots-long in omega arith)))
 
   module _ (e : sends (slot-at (f .slots) k) ≡ true) where
@@ -251,10 +241,10 @@ module _ (now k : ℕ) (f : Fdt) where
     done-unlisted u = rw (e, u)
 
     module _ (u : slot-at (f .slots) k .listed ≡ true) where
-      pub done-expired : expired (plan-of (slot-at (f .slots) k .file .rule)) (life-of (ended-file now (slot-at (f .slots) k) .life)) ≡ true → done-of now k f ≡ let-go-of f k
+      pub done-expired : expired (plan-of (slot-at (f .slots) k .file .plan)) (life-of (ended-file now (slot-at (f .slots) k) .life)) ≡ true → done-of now k f ≡ let-go-of f k
       unfolding done-of goes-back
       done-expired x = rw (x, e, u)
 
-      pub done-back : expired (plan-of (slot-at (f .slots) k .file .rule)) (life-of (ended-file now (slot-at (f .slots) k) .life)) ≡ false → done-of now k f ≡ back-of now f k
+      pub done-back : expired (plan-of (slot-at (f .slots) k .file .plan)) (life-of (ended-file now (slot-at (f .slots) k) .life)) ≡ false → done-of now k f ≡ back-of now f k
       unfolding done-of goes-back
       done-back x = rw (x, e, u)

@@ -2,21 +2,18 @@
 use mathlib.Core.Path.{_≡_, refl, sym, _∙_, ap, subst}
 use mathlib.Core.Bool.{Bool, true, false, not, _&&_, _||_}
 use mathlib.Core.Option.{some}
-use mathlib.Core.List.{List, [], _∷_, map}
+use mathlib.Core.List.{List, [], _∷_}
 use Prim.Native.Nat.{ℕ, suc, _+_}
 use native.Mathlib.Omega.{arith}
 use lib.Dec.{eqb, ltb}
 use borrow.Author.Tests.{lt-ltb, le-ltb, not-false}
-use lib.ListN.{length, length-map}
-use lib.Seq.{length-take-le}
-use Rattle.sizes.specs.Words.{given, any, at, place, one-if, tally, Counts}
+use Rattle.sizes.specs.Words.{given, any, at, place, one-if, tally}
 use Rattle.sizes.specs.Limits.{object-slots}
 use Rattle.sizes.proofs.Lists.{Sought, hit, miss, sought, at-get, found-none}
-use Rattle.sizes.proofs.Tables.{find-any, tally-all, tally-lt, counts-length, any-counts}
-use Rattle.lifecycle.specs.Parts.{shares}
+use Rattle.sizes.proofs.Tables.{find-any, tally-all, tally-lt, any-counts}
+use Rattle.lifecycle.specs.Parts.{shares, past-store}
 use Rattle.lifecycle.specs.Slots.{no-slot, slot-at, is-free, is-listed-as, holds-byte}
-use Rattle.lifecycle.specs.FdtCalls.{waiting, files, sends, used, waits, Tidy, Valid, is-added-of}
-use Rattle.lifecycle.specs.FdtMeans.{file-at}
+use Rattle.lifecycle.specs.FdtCalls.{waiting, files, sends, used, waits, Tidy, ValidFdt, bad-part-of, is-added-of}
 use Rattle.lifecycle.specs.declared.parts.Part.{Part}
 use Rattle.lifecycle.specs.declared.filedesc.FileDesc.{FileDesc}
 use Rattle.lifecycle.specs.declared.slots.Slot.{Slot}
@@ -57,17 +54,13 @@ any-split ok (y ∷ t) = ap (λ b. (used y && ok y) || b) (any-split ok t) ∙ s
     sort false true false b c = refl
     sort false false o b c = refl
 
-module _ (f : Fdt) (v : Valid f) where
+module _ (f : Fdt) (v : ValidFdt f) where
   -- those that wait are the objects in the queue
   any-waiting : (ok : FileDesc → Bool) → any (λ (y : Slot). waits y && ok (y .file)) (f .slots) ≡ any ok (files f)
   any-waiting ok = sym (any-counts no-slot waits (f .slots) (waiting f) refl (v .in-queue) ok (λ (y : Slot). y .file))
 
-  -- those in transfer are the objects of any list that has each such slot once
-  pub any-sent : (l : List ℕ) → Counts no-slot sends (f .slots) l → (ok : FileDesc → Bool) → any (λ (y : Slot). sends y && ok (y .file)) (f .slots) ≡ any ok (map (file-at (f .slots)) l)
-  any-sent l c ok = sym (any-counts no-slot sends (f .slots) l refl c ok (λ (y : Slot). y .file))
-
   -- does a held object share a byte with the part
-  pub bytes-used : (c : Part) → any (holds-byte c) (f .slots) ≡ any (λ (y : Slot). used y && shares c (y .file .part)) (f .slots)
+  bytes-used : (c : Part) → any (holds-byte c) (f .slots) ≡ any (λ (y : Slot). used y && shares c (y .file .part)) (f .slots)
   unfolding holds-byte
   bytes-used c = any-same (holds-byte c) (λ (y : Slot). used y && shares c (y .file .part)) (f .slots)
       (λ k. let y = slot-at (f .slots) k in ap (λ b. not b && shares c (y .file .part)) (free-used y (v .tidy k)) ∙ ap (λ b. b && shares c (y .file .part)) (twice (used y)))
@@ -76,11 +69,10 @@ module _ (f : Fdt) (v : Valid f) where
       twice true = refl
       twice false = refl
 
-  -- one that waits, or one in transfer
-  pub bytes-view : (c : Part) → any (holds-byte c) (f .slots) ≡ (any (λ (o : FileDesc). shares c (o .part)) (files f) || any (λ (y : Slot). sends y && shares c (y .file .part)) (f .slots))
-  bytes-view c = bytes-used c
-      ∙ any-split (λ (y : Slot). shares c (y .file .part)) (f .slots)
-      ∙ ap (λ b. b || any (λ (y : Slot). sends y && shares c (y .file .part)) (f .slots)) (any-waiting (λ (o : FileDesc). shares c (o .part)))
+  -- refusal 5: past the store, or a byte shared with a held object
+  pub bad-part-used : (c : Part) → bad-part-of f c ≡ (past-store (f .settings .«object_store») c || any (λ (y : Slot). used y && shares c (y .file .part)) (f .slots))
+  unfolding bad-part-of
+  bad-part-used c = ap (λ b. past-store (f .settings .«object_store») c || b) (bytes-used c)
 
   -- is there a listed object with the number: one that waits, or a listed one in transfer
   pub added-said : (t : ℕ) → is-added-of t f ≡ (any (λ (o : FileDesc). eqb (o .toi) t) (files f) || any (λ (y : Slot). sends y && is-listed-as t y) (f .slots))
@@ -110,29 +102,6 @@ module _ (f : Fdt) (v : Valid f) where
       less false s o = refl
 
   -- ---- how many
-
-  pub files-length : length (files f) ≡ f .queued
-  files-length = length-map (waiting f) (file-at (f .slots)) ∙ length-take-le (f .queued) (f .queue) (let a = v .queue-long in let b = v .queued in omega arith)
-
-  -- as many are held as wait and are in transfer
-  pub used-count : tally used (f .slots) ≡ f .queued + tally sends (f .slots)
-  used-count =
-      let a = counts-length no-slot waits (f .slots) (waiting f) refl (v .in-queue) in
-      let b = length-take-le (f .queued) (f .queue) (let a = v .queue-long in let b = v .queued in omega arith) in
-      let c = split (f .slots) in omega arith
-    where
-      sum : (a b : Bool) → one-if (a || b) ≡ one-if (a && not b) + one-if b
-      sum true true = refl
-      sum true false = refl
-      sum false true = refl
-      sum false false = refl
-
-      split : (t : List Slot) → tally used t ≡ tally waits t + tally sends t
-      split [] = refl
-      split (y ∷ t) = let a = split t in let b = sum (y .listed) (sends y) in omega arith
-
-  pub sent-count : (l : List ℕ) → Counts no-slot sends (f .slots) l → tally sends (f .slots) ≡ length l
-  sent-count l c = sym (counts-length no-slot sends (f .slots) l refl c)
 
   -- no slot is free exactly if all are used
   pub free-view : given (place is-free (f .slots)) ≡ ltb (tally used (f .slots)) object-slots

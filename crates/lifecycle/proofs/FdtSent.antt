@@ -1,24 +1,21 @@
--- Which slots are in transfer after each call, and how many: a take adds one, the end of a transfer takes one away, and no other call changes any.
+-- Which slots are in transfer after each call: a take adds one, the end of a transfer takes one away, and no other call changes any.
 use mathlib.Core.Path.{_≡_, refl, sym, _∙_, ap, subst}
 use mathlib.Core.Bool.{Bool, true, false, not, _&&_, _||_, false≢true}
-use mathlib.Core.List.{List, [], _∷_}
-use Prim.Native.Nat.{ℕ, zero, suc, _+_}
+use mathlib.Core.Option.{Option, none, some}
+use mathlib.Core.List.{List}
+use Prim.Native.Nat.{ℕ, _+_}
 use native.Mathlib.Omega.{arith}
-use lib.Dec.{eqb, leb, eqb·zero-suc, eqb·suc-zero, eqb·suc-suc}
+use lib.Dec.{eqb}
 use borrow.Author.Tests.{eqb-true, eq-eqb}
-use lib.ListN.{getD}
-use Rattle.sizes.specs.Words.{given, one-if, times, tally, Counts}
-use Rattle.sizes.specs.Limits.{waiting-fdts}
+use Rattle.sizes.specs.Words.{one-if, times, Counts}
+use Rattle.sizes.specs.declared.refusal.Refusal.{Refusal}
+use Rattle.sizes.proofs.Tests.{if-on}
 use Rattle.lifecycle.specs.FileDesc.{started-life, done-life}
-use Rattle.lifecycle.specs.Setup.{bad-blocks}
-use Rattle.lifecycle.specs.Announce.{fdt-rule, next-of, bad-fdt-of, queued-of}
-use Rattle.lifecycle.specs.Slots.{no-slot, slot-at, place-said, published-slot}
-use Rattle.lifecycle.specs.FdtCalls.{sends, Valid, completed-of, reserved-of, released-of, own-of, added-of, taken-of, done-of, announced, publish-of, next-fdt-of, fdt-done-of}
-use Rattle.lifecycle.specs.FdtMeans.{SentSame, ListAdds, refused, admits, Takes, nothing, takes, is-taken, Ends, idle, back, gone}
+use Rattle.lifecycle.specs.Announce.{fdt-plan-of, next-of, queued-of}
+use Rattle.lifecycle.specs.Slots.{no-slot, slot-at}
+use Rattle.lifecycle.specs.FdtCalls.{sends, ValidFdt, completed-of, reserved-of, released-of, own-of, added-of, taken-of, done-of, with-published, publish-of, next-fdt-of, fdt-done-of}
+use Rattle.lifecycle.proofs.FdtMeans.{SentSame, ListAdds, refused, admits, Takes, nothing, takes, is-taken, Ends, idle, back, gone}
 use Rattle.lifecycle.specs.declared.parts.Part.{Part}
-use Rattle.lifecycle.specs.declared.slots.Slot.{Slot}
-use Rattle.lifecycle.specs.declared.slots.Place.{Place}
-use Rattle.lifecycle.specs.declared.slots.Place.the-variants.{At, Nothing}
 use Rattle.lifecycle.specs.declared.announce.Announcer.{Announcer}
 use Rattle.lifecycle.specs.declared.announce.Draft.{Draft}
 use Rattle.lifecycle.specs.declared.fdt.Fdt.{Fdt}
@@ -27,46 +24,19 @@ use Rattle.lifecycle.specs.declared.fdt.Added.{Added}
 use Rattle.lifecycle.specs.declared.fdt.Published.{Published}
 use Rattle.lifecycle.specs.declared.fdt.Request.{Request}
 use Rattle.lifecycle.specs.declared.fdt.Named.{Named}
-use Rattle.lifecycle.proofs.FdtFacts.{if-on}
 use Rattle.lifecycle.proofs.FdtViews.{at-each, taken-view, done-view, published-at}
+use Rattle.lifecycle.proofs.FdtKeeps.{marks-slot, publish-refusal-of, published-by, publish-as}
 use Rattle.lifecycle.proofs.FdtAdds.{added-view}
-
--- ---- two tables that may differ at place k: their counts differ by what stands there
-
-pub tally-moved : {A : Type 0} (z : A) (p : A → Bool) → p z ≡ false → (s t : List A) (k : ℕ) → ((j : ℕ) → eqb k j ≡ false → p (getD s j z) ≡ p (getD t j z))
-    → tally p s + one-if (p (getD t k z)) ≡ tally p t + one-if (p (getD s k z))
-tally-moved z p n [] [] k h = refl
-tally-moved z p n [] (b ∷ t) zero h =
-    let r = tally-moved z p n [] t 0 (λ j e. h (suc j) (eqb·zero-suc j)) in
-    let a = ap one-if (h 1 (eqb·zero-suc 0)) in let d = ap one-if n in omega arith
-tally-moved z p n [] (b ∷ t) (suc k) h =
-    let r = tally-moved z p n [] t k (λ j e. h (suc j) (eqb·suc-suc k j ∙ e)) in
-    let a = ap one-if (h 0 (eqb·suc-zero k)) in let d = ap one-if n in omega arith
-tally-moved z p n (a ∷ s) [] zero h =
-    let r = tally-moved z p n s [] 0 (λ j e. h (suc j) (eqb·zero-suc j)) in
-    let a = ap one-if (h 1 (eqb·zero-suc 0)) in let d = ap one-if n in omega arith
-tally-moved z p n (a ∷ s) [] (suc k) h =
-    let r = tally-moved z p n s [] k (λ j e. h (suc j) (eqb·suc-suc k j ∙ e)) in
-    let a = ap one-if (h 0 (eqb·suc-zero k)) in let d = ap one-if n in omega arith
-tally-moved z p n (a ∷ s) (b ∷ t) zero h =
-    let r = tally-moved z p n s t 0 (λ j e. h (suc j) (eqb·zero-suc j)) in
-    let a = ap one-if (h 1 (eqb·zero-suc 0)) in omega arith
-tally-moved z p n (a ∷ s) (b ∷ t) (suc k) h =
-    let r = tally-moved z p n s t k (λ j e. h (suc j) (eqb·suc-suc k j ∙ e)) in
-    let a = ap one-if (h 0 (eqb·suc-zero k)) in omega arith
 
 -- ---- the same slots are in transfer
 
 module _ (f r : Fdt) (h : SentSame f r) where
-  pub same-count : tally sends (r .slots) ≡ tally sends (f .slots)
-  same-count = let a = tally-moved no-slot sends refl (r .slots) (f .slots) 0 (λ j e. h j) in let b = ap one-if (h 0) in omega arith
-
   pub same-counts : (l : List ℕ) → Counts no-slot sends (f .slots) l → Counts no-slot sends (r .slots) l
   same-counts l c j = c j ∙ sym (ap one-if (h j))
 
 -- ---- take
 
-module _ (f : Fdt) (v : Valid f) (p now : ℕ) where
+module _ (f : Fdt) (v : ValidFdt f) (p now : ℕ) where
   -- in transfer from now on: the slot that was taken, and those that were
   pub taken-sent : (j : ℕ) → sends (slot-at (taken-of p now f .fdt .slots) j) ≡ (is-taken (taken-of p now f .answer) j || sends (slot-at (f .slots) j))
   unfolding started-life
@@ -98,25 +68,9 @@ module _ (f : Fdt) (v : Valid f) (p now : ℕ) where
       sum true b n = let e = ap one-if (n refl) in omega arith
       sum false b n = omega arith
 
-  -- one more, if one was taken
-  pub taken-count : tally sends (taken-of p now f .fdt .slots) ≡ tally sends (f .slots) + one-if (given (place-said (taken-of p now f .answer)))
-  taken-count = go (taken-of p now f .answer) taken-sent taken-new
-    where
-      t : List Slot
-      t = taken-of p now f .fdt .slots
-
-      go : (a : Place) → ((j : ℕ) → sends (slot-at t j) ≡ (is-taken a j || sends (slot-at (f .slots) j))) → ((j : ℕ) → is-taken a j ≡ true → sends (slot-at (f .slots) j) ≡ false)
-          → tally sends t ≡ tally sends (f .slots) + one-if (given (place-said a))
-      go Nothing h n = let a = tally-moved no-slot sends refl t (f .slots) 0 (λ j e. h j) in let b = ap one-if (h 0) in omega arith
-      go (At k) h n =
-          let y = eq-eqb k k refl in
-          let a = tally-moved no-slot sends refl t (f .slots) k (λ j e. h j ∙ ap (λ b. b || sends (slot-at (f .slots) j)) e) in
-          let b = ap one-if (h k ∙ ap (λ b. b || sends (slot-at (f .slots) k)) y) in
-          let c = ap one-if (n k y) in omega arith
-
 -- ---- done
 
-module _ (f : Fdt) (v : Valid f) (now k : ℕ) where
+module _ (f : Fdt) (v : ValidFdt f) (now k : ℕ) where
   -- in transfer from now on: those that were, but slot k
   pub done-sent : (j : ℕ) → sends (slot-at (done-of now k f .slots) j) ≡ (not (eqb k j) && sends (slot-at (f .slots) j))
   unfolding done-life
@@ -147,21 +101,14 @@ module _ (f : Fdt) (v : Valid f) (now k : ℕ) where
       less true false n q = absurd (omega arith)
       less false b n q = omega arith
 
-  -- one fewer, if it was in transfer
-  pub done-count : tally sends (done-of now k f .slots) + one-if (sends (slot-at (f .slots) k)) ≡ tally sends (f .slots)
-  done-count =
-      let t = done-of now k f .slots in
-      let a = tally-moved no-slot sends refl t (f .slots) k (λ j e. done-sent j ∙ ap (λ b. not b && sends (slot-at (f .slots) j)) e) in
-      let b = ap one-if (done-sent k ∙ ap (λ b. not b && sends (slot-at (f .slots) k)) (eq-eqb k k refl)) in omega arith
-
 -- ---- every other call; remove and trigger say it in their views
 
 module _ (f : Fdt) where
-  pub added-sent : Valid f → (q : Request) (named : Named) → SentSame f (added-of f q named .fdt)
+  pub added-sent : ValidFdt f → (q : Request) (named : Named) → SentSame f (added-of f q named .fdt)
   added-sent v q named = go (added-of f q named) (added-view f v q named)
     where
       go : (r : Added) → ListAdds f q (own-of (q .own) (f .settings .sizes)) named r → SentSame f (r .fdt)
-      go r (refused a n e) = subst (λ (x : Added). SentSame f (x .fdt)) (sym e) (λ j. refl)
+      go r (refused a e) = subst (λ (x : Added). SentSame f (x .fdt)) (sym e) (λ j. refl)
       go r (admits k t h) = at-each (λ j. sends (slot-at (r .fdt .slots) j) ≡ sends (slot-at (f .slots) j)) k
           (ap sends (h .view .new) ∙ sym (ap sends (h .free .blank))) (λ j e. ap sends (h .view .same j e))
 
@@ -177,22 +124,20 @@ module _ (f : Fdt) where
   completed-sent j = refl
 
   -- publishing
-  announced-sent : (a : Announcer) → SentSame f (announced f a)
-  unfolding published-slot
-  announced-sent a j = let y = slot-at (f .slots) j in ap sends (published-at (f .slots) j) ∙ if-on (λ (w : Slot). sends w ≡ sends y) (y .listed) (λ e. refl) (λ e. refl)
+  announced-sent : (a : Announcer) → SentSame f (with-published f a)
+  announced-sent a j = ap sends (published-at (f .slots) j) ∙ marks-slot (slot-at (f .slots) j) .sent
 
   pub publish-sent : (now : ℕ) (c : Part) → SentSame f (publish-of now c f .fdt)
-  unfolding publish-of
-  publish-sent now c =
-      if-on (λ (r : Published). SentSame f (r .fdt)) (bad-blocks (f .settings .sizes) (c .size)) (λ e j. refl)
-      (λ e. if-on (λ (r : Published). SentSame f (r .fdt)) (bad-fdt-of (f .settings .«fdt_store») c (f .announcer) || eqb (c .size) 0) (λ e j. refl)
-      (λ e. if-on (λ (r : Published). SentSame f (r .fdt)) (leb waiting-fdts (f .announcer .waiting)) (λ e j. refl)
-      (λ e. announced-sent (queued-of now c (f .announcer)))))
+  publish-sent now c = subst (λ (r : Published). SentSame f (r .fdt)) (sym (publish-as c f now)) (by (publish-refusal-of c f))
+    where
+      by : (o : Option Refusal) → SentSame f (published-by c f now o .fdt)
+      by (some why) j = refl
+      by none j = announced-sent (queued-of now c (f .announcer)) j
 
   pub next-fdt-sent : (now : ℕ) (draft : Draft) → SentSame f (next-fdt-of now draft f .fdt)
   unfolding next-fdt-of
   next-fdt-sent now draft =
-      let n = next-of (fdt-rule (f .settings .«from_start») (f .settings .interval)) (f .settings .validity) now draft (f .announcer) in
+      let n = next-of (fdt-plan-of (f .settings .«from_start») (f .settings .interval)) (f .settings .validity) now draft (f .announcer) in
       if-on (SentSame f) (n .taken) (λ e. announced-sent (n .announcer)) (λ e j. refl)
 
   pub fdt-done-sent : (now : ℕ) → SentSame f (fdt-done-of now f)

@@ -1,4 +1,4 @@
--- Every call keeps Valid, and so does publishing.
+-- After every call the list is valid again.
 use mathlib.Core.Path.{_≡_, refl, sym, _∙_, ap, subst}
 use mathlib.Core.Bool.{true, false, not, _&&_, true≢false}
 use mathlib.Core.Option.{some}
@@ -13,7 +13,7 @@ use Rattle.sizes.specs.Limits.{object-slots, toi-entries}
 use Rattle.sizes.specs.Allocator as Alloc
 use Rattle.sizes.specs.declared.partition.Sizes.{Sizes}
 use Rattle.sizes.specs.declared.toiallocator.ToiAllocator.{ToiAllocator}
-use Rattle.sizes.proofs.Tests.{Tested, pass, fail, tested, and-left, or-left}
+use Rattle.sizes.proofs.Tests.{Tested, pass, fail, tested, and-left, or-left, if-on, maybe-on}
 use Rattle.sizes.proofs.Lists.{found-first, times-append}
 use Rattle.sizes.proofs.Tables.{times-cut, inside, leaves, joins, stays}
 use Rattle.sizes.proofs.Collects.{adds, collect-same}
@@ -22,25 +22,25 @@ use Rattle.sizes.proofs.AllocatorViews.{bound-reserved, bound-given, allocated-
 use Rattle.lifecycle.specs.Lifecycle.{expired}
 use Rattle.lifecycle.specs.Setup.{bad-blocks}
 use Rattle.lifecycle.specs.FileDesc.{plan-of, life-of, with-life, started-life, done-life, reset-life, file-new}
-use Rattle.lifecycle.specs.Announce.{FdtValid}
+use Rattle.lifecycle.specs.Announce.{ValidAnnouncer}
 use Rattle.lifecycle.specs.Slots.{no-slot, slot-at, is-free, queue-startable, published-slot}
-use Rattle.lifecycle.specs.FdtCalls.{waiting, sends, used, waits, used-tois, Tidy, Valid, with-tois, with-slots, completed-of, reserved-of, released-of, own-of, bad-part-of, put-of, named-of, fresh-of, numbered-of, added-of, listed-place, unlisted-of, freed-of, removed-of, triggered-of, taken-at, taken-of, ended-file, goes-back, back-of, let-go-of, done-of}
-use Rattle.lifecycle.specs.FdtMeans.{Listed}
+use Rattle.lifecycle.specs.FdtCalls.{waiting, sends, used, waits, used-tois, Tidy, ValidFdt, with-tois, with-slots, completed-of, reserved-of, released-of, own-of, bad-part-of, put-of, named-of, fresh-of, numbered-of, added-of, listed-place, unlisted-of, freed-of, removed-of, triggered-of, taken-at, taken-of, ended-file, goes-back, back-of, let-go-of, done-of}
+use Rattle.lifecycle.proofs.FdtMeans.{Listed}
 use Rattle.lifecycle.specs.declared.filedesc.Time.{Time}
 use Rattle.lifecycle.specs.declared.slots.Slot.{Slot}
 use Rattle.lifecycle.specs.declared.fdt.Fdt.{Fdt}
-use Rattle.lifecycle.specs.declared.fdt.Told.{Told}
+use Rattle.lifecycle.specs.declared.fdt.Touched.{Touched}
 use Rattle.lifecycle.specs.declared.fdt.Taken.{Taken}
 use Rattle.lifecycle.specs.declared.fdt.Added.{Added}
 use Rattle.lifecycle.specs.declared.fdt.Request.{Request}
 use Rattle.lifecycle.specs.declared.fdt.Named.{Named}
 use Rattle.lifecycle.specs.declared.fdt.Named.the-variants as NamedV
-use Rattle.lifecycle.proofs.FdtFacts.{maybe-on, if-on, toi-in, toi-used, used-listed, used-sends, waits-not, listed-at, waits-at, room, number-held, queue-place, free-at, queue-same, queue-shut, queue-push, waiting-shut, waiting-push, valid-changed}
+use Rattle.lifecycle.proofs.FdtFacts.{toi-in, toi-used, used-listed, used-sends, waits-not, listed-at, waits-at, room, number-held, queue-place, free-at, queue-same, queue-shut, queue-push, waiting-shut, waiting-push, valid-changed}
 
 -- ---- set-up
 
 -- nothing is held
-pub opening : (f : Fdt) → Alloc.Valid (f .tois) → Alloc.bound (f .tois) ≡ [] → f .slots ≡ replicate object-slots no-slot → f .queue ≡ replicate object-slots 0 → f .queued ≡ 0 → FdtValid (f .announcer) → Valid f
+pub opening : (f : Fdt) → Alloc.ValidAllocator (f .tois) → Alloc.bound (f .tois) ≡ [] → f .slots ≡ replicate object-slots no-slot → f .queue ≡ replicate object-slots 0 → f .queued ≡ 0 → ValidAnnouncer (f .announcer) → ValidFdt f
 opening f a b s q n d = record {
   tois = a;
   slots-long = ap length s ∙ length-replicate object-slots no-slot;
@@ -75,11 +75,11 @@ published-same y = if-on (Same y) (y .listed)
     (λ e. (refl, refl, λ t. record { count = t .count; zeroed = λ z. absurd (true≢false (sym e ∙ or-left (y .listed) (sends y) z)) }))
     (λ e. (refl, refl, λ t. t))
 
-module _ (f : Fdt) (v : Valid f) where
+module _ (f : Fdt) (v : ValidFdt f) where
   -- ---- numbers
 
   -- the allocator is changed, and no object's number is
-  valid-tois : (a : ToiAllocator) → Alloc.Valid a → Alloc.bound a ≡ Alloc.bound (f .tois) → Valid (with-tois f a)
+  valid-tois : (a : ToiAllocator) → Alloc.ValidAllocator a → Alloc.bound a ≡ Alloc.bound (f .tois) → ValidFdt (with-tois f a)
   valid-tois a va e = record {
     tois = va;
     slots-long = v .slots-long;
@@ -92,7 +92,7 @@ module _ (f : Fdt) (v : Valid f) where
     fdts = v .fdts;
   }
 
-  pub valid-reserved : Valid (reserved-of f .fdt)
+  pub valid-reserved : ValidFdt (reserved-of f .fdt)
   unfolding reserved-of
   valid-reserved = valid-tois (Alloc.allocated-of true (f .tois) .allocator) (valid-allocated (f .tois) (v .tois) true) (go (tested (ltb (f .tois .entered) toi-entries)))
     where
@@ -100,11 +100,11 @@ module _ (f : Fdt) (v : Valid f) where
       go (pass e) = let h = ltb-true (f .tois .entered) toi-entries e in ap Alloc.bound (allocated-room (f .tois) true h) ∙ bound-reserved (f .tois) (v .tois) h
       go (fail e) = ap Alloc.bound (allocated-full (f .tois) true (ltb-false (f .tois .entered) toi-entries e))
 
-  pub valid-released : (t : ℕ) → Valid (released-of t f .fdt)
+  pub valid-released : (t : ℕ) → ValidFdt (released-of t f .fdt)
   unfolding released-of
   valid-released t = valid-tois (Alloc.dropped-of true t (f .tois) .allocator) (valid-dropped (f .tois) (v .tois) true t) (released-view (f .tois) (v .tois) t .bound-same)
 
-  pub valid-completed : Valid (completed-of f)
+  pub valid-completed : ValidFdt (completed-of f)
   valid-completed = record {
     tois = v .tois;
     slots-long = v .slots-long;
@@ -119,10 +119,10 @@ module _ (f : Fdt) (v : Valid f) where
 
   -- ---- trigger and publish
 
-  pub valid-triggered : (t : ℕ) (start : Time) → Valid (triggered-of t start f .fdt)
+  pub valid-triggered : (t : ℕ) (start : Time) → ValidFdt (triggered-of t start f .fdt)
   unfolding triggered-of reset-life
-  valid-triggered t start = maybe-on (λ (x : Told). Valid (x .fdt)) (listed-place t f) (λ e. v) (λ k e.
-      if-on Valid (sends (slot-at (f .slots) k)) (λ s. v) (λ s.
+  valid-triggered t start = maybe-on (λ (x : Touched). ValidFdt (x .fdt)) (listed-place t f) (λ e. v) (λ k e.
+      if-on ValidFdt (sends (slot-at (f .slots) k)) (λ s. v) (λ s.
       let y = slot-at (f .slots) k in
       let li = listed-at t f k e in
       let w : Slot = record { holders = y .holders; listed = y .listed; file = with-life (y .file) (reset-life start (y .file .life)) } in
@@ -132,7 +132,7 @@ module _ (f : Fdt) (v : Valid f) where
       (stays no-slot waits (f .slots) k w (li .inn) (waiting f) (waiting f) (v .in-queue) (λ j. refl) refl)
       (λ n. refl)))
 
-  pub valid-published : Valid (with-slots f (map published-slot (f .slots)))
+  pub valid-published : ValidFdt (with-slots f (map published-slot (f .slots)))
   unfolding published-slot
   valid-published =
       let there : (k : ℕ) → slot-at (map published-slot (f .slots)) k ≡ published-slot (slot-at (f .slots) k) = λ k. List·getD-map published-slot (f .slots) k no-slot in
@@ -150,12 +150,12 @@ module _ (f : Fdt) (v : Valid f) where
 
   -- ---- take
 
-  pub valid-taken-at : (now n k : ℕ) → at (waiting f) n ≡ some k → Valid (taken-at now f n k)
+  pub valid-taken-at : (now n k : ℕ) → at (waiting f) n ≡ some k → ValidFdt (taken-at now f n k)
   unfolding taken-at started-life
   valid-taken-at now n k e =
       let y = slot-at (f .slots) k in
       let w = waits-at f v n k e in
-      let new : Slot = record { holders = y .holders + 1; listed = y .listed; file = with-life (y .file) (started-life (y .file .rule) now (y .file .life)) } in
+      let new : Slot = record { holders = y .holders + 1; listed = y .listed; file = with-life (y .file) (started-life (y .file .plan) now (y .file .life)) } in
       let used-new = used-sends new refl in
       let used-old = used-listed y (w .is-listed) in
       valid-changed f v k (w .inn) new (f .tois) (shut 0 (f .queue) n) (f .queued - 1)
@@ -165,12 +165,12 @@ module _ (f : Fdt) (v : Valid f) where
       (leaves no-slot waits (f .slots) k new (w .inn) (waiting f) (cut (waiting f) n) (v .in-queue) (λ j. times-cut j (waiting f) n k e) (waits-not new refl)))
       (λ m. ap (λ o. times m (Alloc.bound (f .tois)) + adds m o) (toi-used y used-old ∙ sym (toi-used new used-new)))
 
-  pub valid-taken : (p now : ℕ) → Valid (taken-of p now f .fdt)
+  pub valid-taken : (p now : ℕ) → ValidFdt (taken-of p now f .fdt)
   unfolding taken-of
-  valid-taken p now = maybe-on (λ (x : Taken). Valid (x .fdt)) (place (queue-startable (f .slots) p now) (waiting f)) (λ e. v) (λ n e.
+  valid-taken p now = maybe-on (λ (x : Taken). ValidFdt (x .fdt)) (place (queue-startable (f .slots) p now) (waiting f)) (λ e. v) (λ n e.
       let h = found-first (queue-startable (f .slots) p now) (waiting f) n e in
       let w = waits-at f v n (h .0) (h .1 .stands) in
-      subst (λ k. Valid (taken-at now f n k)) (sym (w .here)) (valid-taken-at now n (h .0) (h .1 .stands)))
+      subst (λ k. ValidFdt (taken-at now f n k)) (sym (w .here)) (valid-taken-at now n (h .0) (h .1 .stands)))
 
   -- ---- done
 
@@ -184,7 +184,7 @@ module _ (f : Fdt) (v : Valid f) where
     in-use : used (slot-at (f .slots) k) ≡ true
     in-use = used-sends (slot-at (f .slots) k) s
 
-    pub valid-back : (now : ℕ) → slot-at (f .slots) k .listed ≡ true → Valid (back-of now f k)
+    pub valid-back : (now : ℕ) → slot-at (f .slots) k .listed ≡ true → ValidFdt (back-of now f k)
     unfolding back-of done-life
     valid-back now li =
         let y = slot-at (f .slots) k in
@@ -200,7 +200,7 @@ module _ (f : Fdt) (v : Valid f) where
         (joins no-slot waits (f .slots) k new inn (waiting f) (waiting f ++ (k ∷ [])) (v .in-queue) (λ j. let a = times-append j (waiting f) (k ∷ []) in omega arith) no-wait (ap (λ b. b && true) li)))
         (λ m. ap (λ o. times m (Alloc.bound (f .tois)) + adds m o) (toi-used y in-use ∙ sym (toi-used new (used-listed new li))))
 
-    pub valid-let-go : Valid (let-go-of f k)
+    pub valid-let-go : ValidFdt (let-go-of f k)
     unfolding let-go-of
     valid-let-go =
         let y = slot-at (f .slots) k in
@@ -211,19 +211,19 @@ module _ (f : Fdt) (v : Valid f) where
         (stays no-slot waits (f .slots) k no-slot inn (waiting f) (waiting f) (v .in-queue) (λ j. refl) (sym no-wait))
         (λ m. let a = fr .one-less m in let b = ap (adds m) (toi-used y in-use) in omega arith)
 
-  pub valid-done : (now k : ℕ) → Valid (done-of now k f)
+  pub valid-done : (now k : ℕ) → ValidFdt (done-of now k f)
   unfolding done-of goes-back
   valid-done now k =
       let y = slot-at (f .slots) k in
-      if-on Valid (sends y)
-      (λ s. if-on Valid (goes-back now y)
-      (λ g. valid-back k s now (and-left (y .listed) (not (expired (plan-of (y .file .rule)) (life-of (ended-file now y .life)))) g))
+      if-on ValidFdt (sends y)
+      (λ s. if-on ValidFdt (goes-back now y)
+      (λ g. valid-back k s now (and-left (y .listed) (not (expired (plan-of (y .file .plan)) (life-of (ended-file now y .life)))) g))
       (λ g. valid-let-go k s))
       (λ s. v)
 
   -- ---- remove
 
-  pub valid-unlisted : (t k : ℕ) → Listed t f k → sends (slot-at (f .slots) k) ≡ true → Valid (unlisted-of f k)
+  pub valid-unlisted : (t k : ℕ) → Listed t f k → sends (slot-at (f .slots) k) ≡ true → ValidFdt (unlisted-of f k)
   unfolding unlisted-of
   valid-unlisted t k li s =
       let y = slot-at (f .slots) k in
@@ -237,7 +237,7 @@ module _ (f : Fdt) (v : Valid f) where
       (stays no-slot waits (f .slots) k new (li .inn) (waiting f) (waiting f) (v .in-queue) (λ j. refl) (sym (waits-not y s)))
       (λ m. ap (λ o. times m (Alloc.bound (f .tois)) + adds m o) (toi-used y (used-sends y s) ∙ sym (toi-used new s)))
 
-  pub valid-freed : (t k n : ℕ) → Listed t f k → at (waiting f) n ≡ some k → Valid (freed-of f t k n)
+  pub valid-freed : (t k n : ℕ) → Listed t f k → at (waiting f) n ≡ some k → ValidFdt (freed-of f t k n)
   unfolding freed-of
   valid-freed t k n li e =
       let y = slot-at (f .slots) k in
@@ -251,22 +251,22 @@ module _ (f : Fdt) (v : Valid f) where
       (leaves no-slot waits (f .slots) k no-slot (w .inn) (waiting f) (cut (waiting f) n) (v .in-queue) (λ j. times-cut j (waiting f) n k e) refl))
       (λ m. let a = fr .one-less m in let b = ap (adds m) (toi-used y in-use) in let c = ap (λ r. one-if (eqb r m)) (li .number) in omega arith)
 
-  pub valid-removed : (t : ℕ) → Valid (removed-of t f .fdt)
+  pub valid-removed : (t : ℕ) → ValidFdt (removed-of t f .fdt)
   unfolding removed-of
-  valid-removed t = maybe-on (λ (x : Told). Valid (x .fdt)) (listed-place t f) (λ e. v) (λ k e.
-      if-on Valid (sends (slot-at (f .slots) k))
+  valid-removed t = maybe-on (λ (x : Touched). ValidFdt (x .fdt)) (listed-place t f) (λ e. v) (λ k e.
+      if-on ValidFdt (sends (slot-at (f .slots) k))
       (λ s. valid-unlisted t k (listed-at t f k e) s)
-      (λ s. maybe-on Valid (place (λ j. eqb j k) (waiting f)) (λ q. v) (λ n q. valid-freed t k n (listed-at t f k e) (queue-place f v k n q))))
+      (λ s. maybe-on ValidFdt (place (λ j. eqb j k) (waiting f)) (λ q. v) (λ n q. valid-freed t k n (listed-at t f k e) (queue-place f v k n q))))
 
   -- ---- add
 
   -- a free slot takes a new object with a number that the allocator has bound to it
-  pub valid-put : (a : ToiAllocator) (k toi : ℕ) (q : Request) (z : Sizes) → Alloc.Valid a → ((n : ℕ) → times n (Alloc.bound a) ≡ times n (Alloc.bound (f .tois)) + one-if (eqb toi n))
-      → place is-free (f .slots) ≡ some k → Valid (put-of (with-tois f a) k toi q z)
+  pub valid-put : (a : ToiAllocator) (k toi : ℕ) (q : Request) (z : Sizes) → Alloc.ValidAllocator a → ((n : ℕ) → times n (Alloc.bound a) ≡ times n (Alloc.bound (f .tois)) + one-if (eqb toi n))
+      → place is-free (f .slots) ≡ some k → ValidFdt (put-of (with-tois f a) k toi q z)
   unfolding put-of
   valid-put a k toi q z va b e =
       let h = free-at f v k e in
-      let new : Slot = record { holders = 1; listed = true; file = file-new toi (q .priority) (q .part) z (q .rule) (q .start) } in
+      let new : Slot = record { holders = 1; listed = true; file = file-new toi (q .priority) (q .part) z (q .plan) (q .start) } in
       let y = slot-at (f .slots) k in
       let no-wait : waits y ≡ false = ap waits (h .1 .blank) in
       let r = room f v k (h .0) no-wait in
@@ -277,11 +277,11 @@ module _ (f : Fdt) (v : Valid f) where
       (joins no-slot waits (f .slots) k new (h .0) (waiting f) (waiting f ++ (k ∷ [])) (v .in-queue) (λ j. let a = times-append j (waiting f) (k ∷ []) in omega arith) no-wait refl))
       (λ m. let c = b m in let d = ap (λ x. adds m (toi-in x)) (h .1 .blank) in omega arith)
 
-  pub valid-named : (q : Request) (z : Sizes) (t : ℕ) → Valid (named-of f q z t .fdt)
+  pub valid-named : (q : Request) (z : Sizes) (t : ℕ) → ValidFdt (named-of f q z t .fdt)
   unfolding named-of
   valid-named q z t =
-      if-on (λ (x : Added). Valid (x .fdt)) (has t (Alloc.loose (f .tois)))
-      (λ l. maybe-on (λ (x : Added). Valid (x .fdt)) (place is-free (f .slots)) (λ e. v)
+      if-on (λ (x : Added). ValidFdt (x .fdt)) (has t (Alloc.loose (f .tois)))
+      (λ l. maybe-on (λ (x : Added). ValidFdt (x .fdt)) (place is-free (f .slots)) (λ e. v)
       (λ k e. valid-put (Alloc.claimed-of t (f .tois) .allocator) k t q z (valid-claimed (f .tois) (v .tois) t) (claimed-view (f .tois) (v .tois) t l .one-more) e))
       (λ l. v)
 
@@ -292,23 +292,23 @@ module _ (f : Fdt) (v : Valid f) where
       let b = ap (times n) (bound-given (f .tois) (v .tois) h) in
       let c = times-append n (Alloc.bound (f .tois)) (f .tois .next ∷ []) in omega arith
 
-  pub valid-fresh : (q : Request) (z : Sizes) → Valid (fresh-of f q z .fdt)
+  pub valid-fresh : (q : Request) (z : Sizes) → ValidFdt (fresh-of f q z .fdt)
   unfolding fresh-of
   valid-fresh q z =
-      maybe-on (λ (x : Added). Valid (x .fdt)) (place is-free (f .slots)) (λ e. v)
-      (λ k e. if-on (λ (x : Added). Valid (x .fdt)) (ltb (f .tois .entered) toi-entries)
+      maybe-on (λ (x : Added). ValidFdt (x .fdt)) (place is-free (f .slots)) (λ e. v)
+      (λ k e. if-on (λ (x : Added). ValidFdt (x .fdt)) (ltb (f .tois .entered) toi-entries)
       (λ l. valid-put (Alloc.allocated-of false (f .tois) .allocator) k (f .tois .next) q z (valid-allocated (f .tois) (v .tois) false) (bound-more (ltb-true (f .tois .entered) toi-entries l)) e)
       (λ l. v))
 
-  valid-numbered : (q : Request) (z : Sizes) (named : Named) → Valid (numbered-of f q z named .fdt)
+  valid-numbered : (q : Request) (z : Sizes) (named : Named) → ValidFdt (numbered-of f q z named .fdt)
   unfolding numbered-of
   valid-numbered q z (NamedV.Toi t) = valid-named q z t
   valid-numbered q z NamedV.Anew = valid-fresh q z
 
-  pub valid-added : (q : Request) (named : Named) → Valid (added-of f q named .fdt)
+  pub valid-added : (q : Request) (named : Named) → ValidFdt (added-of f q named .fdt)
   unfolding added-of
   valid-added q named =
       let z = own-of (q .own) (f .settings .sizes) in
-      if-on (λ (x : Added). Valid (x .fdt)) (f .complete) (λ e. v) (λ e.
-      if-on (λ (x : Added). Valid (x .fdt)) (bad-blocks z (q .part .size)) (λ e. v) (λ e.
-      if-on (λ (x : Added). Valid (x .fdt)) (bad-part-of f (q .part)) (λ e. v) (λ e. valid-numbered q z named)))
+      if-on (λ (x : Added). ValidFdt (x .fdt)) (f .complete) (λ e. v) (λ e.
+      if-on (λ (x : Added). ValidFdt (x .fdt)) (bad-blocks z (q .part .size)) (λ e. v) (λ e.
+      if-on (λ (x : Added). ValidFdt (x .fdt)) (bad-part-of f (q .part)) (λ e. v) (λ e. valid-numbered q z named)))

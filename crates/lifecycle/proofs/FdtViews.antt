@@ -9,23 +9,23 @@ use lib.Dec.{eqb}
 use borrow.Author.Tests.{eqb-true, eq-eqb, ne-eqb}
 use lib.ListN.{length, set, getD, length-set, List·getD-map}
 use lib.Seq.{getD-set-same}
-use Rattle.sizes.specs.Words.{if_then_else_, given, over, at, cut, place, shut, one-if, times, Hit}
+use Rattle.sizes.specs.Words.{if_then_else_, given, over, at, cut, place, shut, one-if, times}
 use Rattle.sizes.specs.Allocator as Alloc
 use Rattle.sizes.specs.declared.toiallocator.ToiAllocator.{ToiAllocator}
-use Rattle.sizes.proofs.Tests.{Tested, pass, fail, tested, and-left, none≢some}
-use Rattle.sizes.proofs.Lists.{Sought, hit, miss, sought, found-first, found-none, at-map, map-append, map-cut, has-none}
-use Rattle.sizes.proofs.Tables.{map-in, find-any, inside, other, none-get}
+use Rattle.sizes.proofs.Tests.{Tested, pass, fail, tested, and-left, none≢some, if-on, maybe-on}
+use Rattle.sizes.proofs.Lists.{Hit, Sought, hit, miss, sought, found-first, found-none, at-map, map-append, map-cut, has-none}
+use Rattle.sizes.proofs.Tables.{one-true, map-in, find-any, inside, other, none-get}
 use Rattle.sizes.proofs.Collects.{adds, at-inside, collect-set, collect-at}
 use Rattle.sizes.proofs.AllocatorViews.{held-split, freed-view}
 use Rattle.lifecycle.specs.FileDesc.{startable-file}
 use Rattle.lifecycle.specs.Slots.{no-slot, slot-at, queue-startable, published-slot}
-use Rattle.lifecycle.specs.FdtCalls.{waiting, files, sends, used, waits, Valid, with-slots, with-objects, taken-at, taken-of, goes-back, back-of, let-go-of, done-of}
+use Rattle.lifecycle.specs.FdtCalls.{file-at, waiting, files, sends, used, waits, ValidFdt, with-slots, with-objects, taken-at, taken-of, goes-back, back-of, let-go-of, done-of}
 use Rattle.lifecycle.specs.FdtCalls.{started-slot, ended-slot}
-use Rattle.lifecycle.specs.FdtMeans.{file-at, Listed, Seen, Takes, nothing, takes, Ends, idle, back, gone, published-file}
+use Rattle.lifecycle.proofs.FdtMeans.{Listed, Seen, Takes, nothing, takes, Ends, idle, back, gone, published-file}
 use Rattle.lifecycle.specs.declared.slots.Slot.{Slot}
-use Rattle.lifecycle.specs.declared.slots.Place.the-variants.{At}
+use Rattle.sizes.specs.declared.place.Place.the-variants.{At}
 use Rattle.lifecycle.specs.declared.fdt.Fdt.{Fdt}
-use Rattle.lifecycle.proofs.FdtFacts.{maybe-on, if-on, one-true, toi-in, toi-used, used-listed, used-sends, waits-not, waits-at, absent, room, number-held, waiting-shut, waiting-push}
+use Rattle.lifecycle.proofs.FdtFacts.{toi-in, toi-used, used-listed, used-sends, waits-not, waits-at, absent, room, number-held, waiting-shut, waiting-push}
 
 -- a number that is in is not one that is out
 pub differs : (k j : ℕ) (l : List ℕ) → times k l ≡ 0 → 1 ≤ times j l → eqb k j ≡ false
@@ -65,7 +65,7 @@ no-right false b e f = absurd (false≢true f)
 
 -- ---- numbers are distinct
 
-module _ (f : Fdt) (v : Valid f) where
+module _ (f : Fdt) (v : ValidFdt f) where
   -- two held objects do not have one number
   pub apart : (j k : ℕ) → used (slot-at (f .slots) j) ≡ true → used (slot-at (f .slots) k) ≡ true → file-at (f .slots) j .toi ≡ file-at (f .slots) k .toi → j ≡ k
   apart j k a b e = go (tested (eqb k j))
@@ -109,7 +109,7 @@ at-each P k h o j = go (tested (eqb k j))
     go (pass e) = subst P (eqb-true k j e) h
     go (fail e) = o j e
 
-module _ (f : Fdt) (v : Valid f) (k : ℕ) (inn : k < length (f .slots)) (w : Slot) (a : ToiAllocator) where
+module _ (f : Fdt) (v : ValidFdt f) (k : ℕ) (inn : k < length (f .slots)) (w : Slot) (a : ToiAllocator) where
   -- it does not wait, and the queue stays
   pub seen-aside : waits (slot-at (f .slots) k) ≡ false → Seen f (files f) k w (with-objects f a (set (f .slots) k w) (f .queue) (f .queued))
   seen-aside e = record {
@@ -143,7 +143,7 @@ module _ (f : Fdt) (v : Valid f) (k : ℕ) (inn : k < length (f .slots)) (w : Sl
 
 -- ---- take
 
-module _ (f : Fdt) (v : Valid f) where
+module _ (f : Fdt) (v : ValidFdt f) where
   pub startable-place : (p now : ℕ) → place (startable-file p now) (files f) ≡ place (queue-startable (f .slots) p now) (waiting f)
   unfolding queue-startable
   startable-place p now = place-map (startable-file p now) (file-at (f .slots)) (waiting f)
@@ -165,7 +165,7 @@ module _ (f : Fdt) (v : Valid f) where
 
 -- ---- done
 
-pub done-view : (f : Fdt) → Valid f → (now k : ℕ) → Ends now k f (done-of now k f)
+pub done-view : (f : Fdt) → ValidFdt f → (now k : ℕ) → Ends now k f (done-of now k f)
 unfolding done-of back-of let-go-of
 done-view f v now k =
     let y = slot-at (f .slots) k in
@@ -184,7 +184,7 @@ pub published-at : (t : List Slot) (k : ℕ) → slot-at (map published-slot t) 
 unfolding published-slot
 published-at t k = List·getD-map published-slot t k no-slot
 
-pub published-view : (f : Fdt) → Valid f → files (with-slots f (map published-slot (f .slots))) ≡ map published-file (files f)
+pub published-view : (f : Fdt) → ValidFdt f → files (with-slots f (map published-slot (f .slots))) ≡ map published-file (files f)
 unfolding published-slot
 published-view f v = map-two (file-at (map published-slot (f .slots))) (file-at (f .slots)) published-file (waiting f) (λ k u.
     let y = slot-at (f .slots) k in

@@ -10,7 +10,7 @@ use borrow.Author.Tests.{eq-eqb, ne-eqb, eqb-true, eqb-false, ltb-true, ltb-fals
 use Rattle.sizes.proofs.Tests.{Tested, pass, fail, tested}
 use Rattle.lifecycle.specs.Lifecycle.{repeats, is-last}
 use Rattle.lifecycle.specs.Lifecycle as Def
-use Rattle.lifecycle.specs.FileDesc.{time-of, target-of, plan-of, life-of, pace-said, carousel-named, target-named, started-life, done-life, published-life, reset-life, rule-named, with-carousel, with-target, no-pace, duration-of, pace-at, ticked-of}
+use Rattle.lifecycle.specs.FileDesc.{time-of, target-of, plan-of, life-of, pace-said, carousel-named, target-named, started-life, done-life, published-life, reset-life, plan-named, with-carousel, with-target, no-pace, duration-of, pace-at, ticked-of}
 use Rattle.sizes.specs.Words.{if_then_else_, maybe, given}
 use Rattle.sizes.specs.Limits.{wide}
 use Rattle.lifecycle.specs.declared.filedesc.Pace.{Pace}
@@ -19,17 +19,17 @@ use Rattle.lifecycle.specs.declared.filedesc.Carousel.{Carousel}
 use Rattle.lifecycle.specs.declared.filedesc.Carousel.the-variants.{Never, Delay, Interval}
 use Rattle.lifecycle.specs.declared.filedesc.Target.{Target}
 use Rattle.lifecycle.specs.declared.filedesc.Target.the-variants.{AtOnce, Within, By}
-use Rattle.lifecycle.specs.declared.filedesc.Rule.{Rule}
+use Rattle.lifecycle.specs.declared.filedesc.Plan.{Plan}
 use Rattle.lifecycle.specs.declared.filedesc.Life.{Life}
 
 -- the flag says whether there is a carousel
-repeats-flag : (r : Rule) → repeats (plan-of r) ≡ r .repeats
+repeats-flag : (r : Plan) → repeats (plan-of r) ≡ r .repeats
 repeats-flag r = elim (r .repeats) as (λ b. given (if b then some (if r .«from_start» then Def.Carousel.interval (r .interval) else Def.Carousel.delay (r .interval)) else none) ≡ b) [ true ↦ refl | false ↦ refl ]
 
-pub repeats-said : (r : Rule) → not (repeats (plan-of r)) ≡ not (r .repeats)
+pub repeats-said : (r : Plan) → not (repeats (plan-of r)) ≡ not (r .repeats)
 repeats-said r = ap not (repeats-flag r)
 
-module _ (r : Rule) (x : Life) (e : r .repeats ≡ false) where
+module _ (r : Plan) (x : Life) (e : r .repeats ≡ false) where
   pub last-none : r .most ≡ 0 → false ≡ is-last (plan-of r) (life-of x)
   unfolding is-last
   last-none h = rw (e, ne-eqb (r .most) (suc (x .count)) (λ q. absurd (omega arith)))
@@ -75,7 +75,7 @@ and-comm true false = refl
 and-comm false true = refl
 and-comm false false = refl
 
-pub life-started : (r : Rule) (now : ℕ) (x : Life) → life-of (started-life r now x) ≡ Def.started (plan-of r) now (life-of x)
+pub life-started : (r : Plan) (now : ℕ) (x : Life) → life-of (started-life r now x) ≡ Def.started (plan-of r) now (life-of x)
 unfolding started-life Def.started
 life-started r now x =
     ap (λ b. record { published = x .published; count = if b then 0 else x .count; total = x .total; last-start = some now; last-end = time-of (x .«last_end»); named-start = time-of (x .«named_start») })
@@ -98,21 +98,21 @@ life-reset t x = ap (λ f. record { published = x .published; count = x .count; 
     start false = refl
 
 -- what is asked is what the inputs name
-pub plan-named : (most : ℕ) (c : Carousel) (t : Target) (stop : Bool)
-    → plan-of (rule-named most c t stop) ≡ record { most = most; carousel = carousel-named c; target = target-named t; stop-at-once = stop }
-unfolding rule-named with-carousel with-target
-plan-named most Never AtOnce stop = refl
-plan-named most Never (Within d) stop = refl
-plan-named most Never (By d) stop = refl
-plan-named most (Delay i) AtOnce stop = refl
-plan-named most (Delay i) (Within d) stop = refl
-plan-named most (Delay i) (By d) stop = refl
-plan-named most (Interval i) AtOnce stop = refl
-plan-named most (Interval i) (Within d) stop = refl
-plan-named most (Interval i) (By d) stop = refl
+pub plan-as-named : (most : ℕ) (c : Carousel) (t : Target) (stop : Bool)
+    → plan-of (plan-named most c t stop) ≡ record { most = most; carousel = carousel-named c; target = target-named t; stop-at-once = stop }
+unfolding plan-named with-carousel with-target
+plan-as-named most Never AtOnce stop = refl
+plan-as-named most Never (Within d) stop = refl
+plan-as-named most Never (By d) stop = refl
+plan-as-named most (Delay i) AtOnce stop = refl
+plan-as-named most (Delay i) (Within d) stop = refl
+plan-as-named most (Delay i) (By d) stop = refl
+plan-as-named most (Interval i) AtOnce stop = refl
+plan-as-named most (Interval i) (Within d) stop = refl
+plan-as-named most (Interval i) (By d) stop = refl
 
 -- the pace is the definition's
-pub pace-view : (r : Rule) (now l e : ℕ) → pace-said (pace-at r now l e) ≡ Def.pace-of (target-of r) now l e
+pub pace-view : (r : Plan) (now l e : ℕ) → pace-said (pace-at r now l e) ≡ Def.pace-of (target-of r) now l e
 unfolding pace-at
 pace-view r now l e = go (tested (r .paced)) (tested (r .«by_time»))
   where

@@ -47,3 +47,8 @@ module _ (n : ℕ) (c : Part) where
   pub left-short : c .start ≤ n → ltb (n - c .start) (c .size) ≡ past-store n c
   unfolding past-store
   left-short h = ltb-same (n - c .start) (c .size) n (c .start + c .size) (λ g. omega arith) (λ g. omega arith)
+
+  -- a part that does not end past a store lies in it
+  pub lies-in : past-store n c ≡ false → c .start + c .size ≤ n
+  unfolding past-store
+  lies-in h = ltb-false n (c .start + c .size) h

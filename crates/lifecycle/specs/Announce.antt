@@ -14,10 +14,10 @@ use Rattle.lifecycle.specs.FileDesc.{time-of, plan-of, life-of, no-time,
 use Rattle.lifecycle.specs.Fdt as Def
 use Rattle.lifecycle.specs.Fdt.{FdtState, id-after, runs-out}
 use Rattle.lifecycle.specs.declared.parts.Part.{Part}
-use Rattle.lifecycle.specs.declared.filedesc.Rule.{Rule}
+use Rattle.lifecycle.specs.declared.filedesc.Plan.{Plan}
 use Rattle.lifecycle.specs.declared.announce.Instance.{Instance}
 use Rattle.lifecycle.specs.declared.announce.Announcer.{Announcer}
-use Rattle.lifecycle.specs.declared.announce.NextFdt.{NextFdt}
+use Rattle.lifecycle.specs.declared.announce.NextInstance.{NextInstance}
 use Rattle.lifecycle.specs.declared.announce.Draft.{Draft}
 use Rattle.lifecycle.specs.declared.announce.Draft.the-variants.{Given, Missing}
 
@@ -45,8 +45,8 @@ draft-given (Given c) = some c
 draft-given Missing = none
 
 -- what an answer says; the FDT that starts is the new current one
-unfoldable pub answer-of : NextFdt → Def.Next
-answer-of r = record { taken = r .taken; state = state-of (r .announcer); starts = if r .starts then some (instance-of (r .announcer .current)) else none }
+unfoldable pub next-told : NextInstance → Def.Next
+next-told r = record { taken = r .taken; state = state-of (r .announcer); starts = if r .starts then some (instance-of (r .announcer .current)) else none }
 
 -- ---- what holds of it at any time
 
@@ -54,7 +54,7 @@ answer-of r = record { taken = r .taken; state = state-of (r .announcer); starts
 abbrev pub no-instance : Instance
 no-instance = record { id = 0; part = record { start = 0; size = 0 }; life = unborn-of no-time }
 
-pub record FdtValid (a : Announcer) : Type 0 where
+pub record ValidAnnouncer (a : Announcer) : Type 0 where
   pub sized : length (a .queue) ≡ waiting-fdts
   pub room : a .waiting ≤ waiting-fdts
   -- zeros past those that wait, and where there is no current one
@@ -67,8 +67,8 @@ pub record FdtValid (a : Announcer) : Type 0 where
 -- ---- what the functions make of them
 
 -- what is asked of every FDT
-abbrev pub fdt-rule : Bool → ℕ → Rule
-fdt-rule start d = record { most = 1; repeats = true; «from_start» = start; interval = d; paced = false; «by_time» = false; target = 0; «stop_at_once» = false }
+abbrev pub fdt-plan-of : Bool → ℕ → Plan
+fdt-plan-of start d = record { most = 1; repeats = true; «from_start» = start; interval = d; paced = false; «by_time» = false; target = 0; «stop_at_once» = false }
 
 -- is a new FDT needed
 unfoldable pub needs-new-of : ℕ → ℕ → Announcer → Bool
@@ -107,7 +107,7 @@ front-of a = if eqb (a .waiting) 0 then a else record {
 }
 
 -- start and end of one FDT
-abbrev pub started-instance : Rule → ℕ → Instance → Instance
+abbrev pub started-instance : Plan → ℕ → Instance → Instance
 started-instance r now i = record { id = i .id; part = i .part; life = started-life r now (i .life) }
 
 abbrev pub done-instance : ℕ → Instance → Instance
@@ -118,7 +118,7 @@ abbrev pub holding : Announcer → Instance → Announcer
 holding a i = record { fdtid = a .fdtid; «last_publish» = a .«last_publish»; queue = a .queue; waiting = a .waiting; «has_current» = a .«has_current»; current = i }
 
 -- start the current one if it may
-unfoldable pub start-of : Rule → ℕ → Bool → Announcer → NextFdt
+unfoldable pub start-of : Plan → ℕ → Bool → Announcer → NextInstance
 start-of r now taken a =
     if a .«has_current» && may-start (plan-of r) now (life-of (a .current .life))
     then record { taken = taken; starts = true; announcer = holding a (started-instance r now (a .current)) }
@@ -133,14 +133,14 @@ unfoldable pub transferring-of : Announcer → Bool
 transferring-of a = a .«has_current» && a .current .life .transferring
 
 -- nothing new while the current one is transferring; else republish if needed, take the front, start it if it may
-unfoldable pub next-of : Rule → ℕ → ℕ → Draft → Announcer → NextFdt
+unfoldable pub next-of : Plan → ℕ → ℕ → Draft → Announcer → NextInstance
 next-of r validity now draft a =
     if transferring-of a then record { taken = false; starts = false; announcer = a }
     else start-of r now (needs-new-of validity now a && given (draft-given draft)) (front-of (republished-of validity now draft a))
 
 -- the current one is done
-unfoldable pub done-of : ℕ → Announcer → Announcer
-done-of now a = if a .«has_current» then holding a (done-instance now (a .current)) else a
+unfoldable pub current-done : ℕ → Announcer → Announcer
+current-done now a = if a .«has_current» then holding a (done-instance now (a .current)) else a
 
 -- does an FDT wait
 abbrev pub waits-of : Announcer → Bool
@@ -159,5 +159,5 @@ unfoldable pub bad-fdt-of : ℕ → Part → Announcer → Bool
 bad-fdt-of store c a = past-store store c || shares-fdt-of c a
 
 -- nothing waits, and nothing is current
-abbrev pub opening-of : ℕ → Announcer
-opening-of id = record { fdtid = id; «last_publish» = no-time; queue = replicate waiting-fdts no-instance; waiting = 0; «has_current» = false; current = no-instance }
+abbrev pub new-announcer : ℕ → Announcer
+new-announcer id = record { fdtid = id; «last_publish» = no-time; queue = replicate waiting-fdts no-instance; waiting = 0; «has_current» = false; current = no-instance }

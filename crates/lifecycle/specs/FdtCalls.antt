@@ -8,6 +8,8 @@ use lib.Dec.{eqb, ltb, leb}
 use lib.ListN.{length, getD, take, set, replicate}
 use Rattle.sizes.specs.Words.{if_then_else_, maybe, given, any, has, place, shut, collect, one-if, times, first-of}
 use Rattle.sizes.specs.Limits.{object-slots, toi-entries, waiting-fdts}
+use Rattle.sizes.specs.declared.refusal.Refusal.{Refusal}
+use Rattle.sizes.specs.declared.refusal.Refusal.the-variants as Because
 use Rattle.sizes.specs.Allocator as Alloc
 use Rattle.sizes.specs.declared.partition.Sizes.{Sizes}
 use Rattle.sizes.specs.declared.toiallocator.ToiAllocator.{ToiAllocator}
@@ -20,7 +22,7 @@ use Rattle.lifecycle.specs.declared.parts.Part.{Part}
 use Rattle.lifecycle.specs.declared.filedesc.Time.{Time}
 use Rattle.lifecycle.specs.declared.filedesc.FileDesc.{FileDesc}
 use Rattle.lifecycle.specs.declared.slots.Slot.{Slot}
-use Rattle.lifecycle.specs.declared.slots.Place.the-variants.{At, Nothing}
+use Rattle.sizes.specs.declared.place.Place.the-variants.{At, Nothing}
 use Rattle.lifecycle.specs.declared.fdt.Fdt.{Fdt}
 use Rattle.lifecycle.specs.declared.fdt.Own.{Own}
 use Rattle.lifecycle.specs.declared.fdt.Own.the-variants as OwnV
@@ -32,7 +34,7 @@ use Rattle.lifecycle.specs.declared.fdt.Admission.the-variants as Admiss
 use Rattle.lifecycle.specs.declared.fdt.Added.{Added}
 use Rattle.lifecycle.specs.declared.fdt.Reserved.{Reserved}
 use Rattle.lifecycle.specs.declared.fdt.Released.{Released}
-use Rattle.lifecycle.specs.declared.fdt.Told.{Told}
+use Rattle.lifecycle.specs.declared.fdt.Touched.{Touched}
 use Rattle.lifecycle.specs.declared.fdt.Transfers.{Transfers}
 use Rattle.lifecycle.specs.declared.fdt.Transfers.the-variants.{Total, NotListed}
 use Rattle.lifecycle.specs.declared.fdt.Taken.{Taken}
@@ -41,13 +43,13 @@ use Rattle.lifecycle.specs.declared.fdt.Publication.the-variants as Publ
 use Rattle.lifecycle.specs.declared.fdt.Published.{Published}
 use Rattle.lifecycle.specs.declared.fdt.DraftTest.{DraftTest}
 use Rattle.lifecycle.specs.declared.fdt.DraftTest.the-variants as DraftTestV
-use Rattle.lifecycle.specs.declared.fdt.NextOf.{NextOf}
+use Rattle.lifecycle.specs.declared.fdt.NextFdt.{NextFdt}
 use Rattle.lifecycle.specs.declared.fdt.Settings.{Settings}
 use Rattle.lifecycle.specs.declared.announce.Announcer.{Announcer}
 use Rattle.lifecycle.specs.declared.announce.Draft.{Draft}
 use Rattle.lifecycle.specs.declared.announce.Draft.the-variants as DraftV
 use Rattle.lifecycle.specs.Announce as Ann
-use Rattle.lifecycle.specs.Announce.{FdtValid, fdt-rule, queued-of, next-of, bad-fdt-of, opening-of}
+use Rattle.lifecycle.specs.Announce.{ValidAnnouncer, fdt-plan-of, queued-of, next-of, bad-fdt-of, new-announcer}
 
 -- ---- what the records mean
 
@@ -55,9 +57,13 @@ use Rattle.lifecycle.specs.Announce.{FdtValid, fdt-rule, queued-of, next
 abbrev pub waiting : Fdt → List ℕ
 waiting f = take (f .queued) (f .queue)
 
+-- the object in a slot
+abbrev pub file-at : List Slot → ℕ → FileDesc
+file-at t k = slot-at t k .file
+
 -- the objects that wait, in order
 abbrev pub files : Fdt → List FileDesc
-files f = map (λ k. slot-at (f .slots) k .file) (waiting f)
+files f = map (file-at (f .slots)) (waiting f)
 
 -- is it transferring; does someone hold it; does it wait
 abbrev pub sends : Slot → Bool
@@ -79,8 +85,8 @@ pub record Tidy (v : Slot) : Type 0 where
   pub zeroed : used v ≡ false → v ≡ no-slot
 
 -- what set-up and every call give back, and the only premise of a call
-pub record Valid (f : Fdt) : Type 0 where
-  pub tois : Alloc.Valid (f .tois)
+pub record ValidFdt (f : Fdt) : Type 0 where
+  pub tois : Alloc.ValidAllocator (f .tois)
   pub slots-long : length (f .slots) ≡ object-slots
   pub queue-long : length (f .queue) ≡ object-slots
   pub queued : f .queued ≤ object-slots
@@ -91,7 +97,7 @@ pub record Valid (f : Fdt) : Type 0 where
   pub tidy : (k : ℕ) → Tidy (slot-at (f .slots) k)
   -- the numbers that objects hold are those of the held objects
   pub owned : (n : ℕ) → times n (Alloc.bound (f .tois)) ≡ times n (used-tois (f .slots))
-  pub fdts : FdtValid (f .announcer)
+  pub fdts : ValidAnnouncer (f .announcer)
 
 -- ---- changes
 
@@ -127,7 +133,7 @@ bad-part-of f c = past-store (f .settings .«object_store») c || any (holds-byt
 
 -- the slot of a new object with number t
 abbrev pub new-slot : Request → Sizes → ℕ → Slot
-new-slot q z t = record { holders = 1; listed = true; file = file-new t (q .priority) (q .part) z (q .rule) (q .start) }
+new-slot q z t = record { holders = 1; listed = true; file = file-new t (q .priority) (q .part) z (q .plan) (q .start) }
 
 -- a new object in slot k, at the queue's end
 unfoldable pub put-of : Fdt → ℕ → ℕ → Request → Sizes → Fdt
@@ -135,26 +141,26 @@ put-of f k toi q z = with-objects f (f .tois)
     (set (f .slots) k (new-slot q z toi))
     (set (f .queue) (f .queued) k) (f .queued + 1)
 
-abbrev pub refuses : Fdt → Admission → Added
-refuses f a = record { answer = a; fdt = f }
+abbrev pub refuses : Fdt → Refusal → Added
+refuses f why = record { answer = AdmissionV.Refused why; fdt = f }
 
 -- with the first free slot; refused (7) where there is none
 abbrev pub in-slot : Fdt → (ℕ → Added) → Added
-in-slot f go = maybe (refuses f AdmissionV.Full) go (place is-free (f .slots))
+in-slot f go = maybe (refuses f Because.Full) go (place is-free (f .slots))
 
 -- an add that names a reservation: it is to be loose (6), and there is to be a slot (7)
 unfoldable pub named-of : Fdt → Request → Sizes → ℕ → Added
 named-of f q z t =
     if has t (Alloc.loose (f .tois))
     then in-slot f (λ k. record { answer = AdmissionV.Toi t; fdt = put-of (with-tois f (Alloc.claimed-of t (f .tois) .allocator)) k t q z })
-    else refuses f AdmissionV.Unknown
+    else refuses f Because.NotLoose
 
 -- one that names none: there is to be a slot and a TOI entry (7)
 unfoldable pub fresh-of : Fdt → Request → Sizes → Added
 fresh-of f q z =
     in-slot f (λ k. if ltb (f .tois .entered) toi-entries
     then record { answer = AdmissionV.Toi (f .tois .next); fdt = put-of (with-tois f (Alloc.allocated-of false (f .tois) .allocator)) k (f .tois .next) q z }
-    else refuses f AdmissionV.Full)
+    else refuses f Because.Full)
 
 unfoldable pub numbered-of : Fdt → Request → Sizes → Named → Added
 numbered-of f q z (NamedV.Toi t) = named-of f q z t
@@ -164,9 +170,9 @@ numbered-of f q z NamedV.Anew = fresh-of f q z
 unfoldable pub added-of : Fdt → Request → Named → Added
 added-of f q named =
     let z = own-of (q .own) (f .settings .sizes) in
-    if f .complete then refuses f AdmissionV.Complete
-    else if bad-blocks z (q .part .size) then refuses f AdmissionV.Sizes
-    else if bad-part-of f (q .part) then refuses f AdmissionV.Part
+    if f .complete then refuses f Because.Complete
+    else if bad-blocks z (q .part .size) then refuses f Because.Sizes
+    else if bad-part-of f (q .part) then refuses f Because.Part
     else numbered-of f q z named
 
 -- ---- by number
@@ -196,14 +202,14 @@ unlisted-of f k = with-slots f (set (f .slots) k (unlisted-slot (slot-at (f .slo
 unfoldable pub freed-of : Fdt → ℕ → ℕ → ℕ → Fdt
 freed-of f t k n = with-objects f (Alloc.dropped-of false t (f .tois) .allocator) (set (f .slots) k no-slot) (shut 0 (f .queue) n) (f .queued - 1)
 
-unfoldable pub removed-of : ℕ → Fdt → Told
+unfoldable pub removed-of : ℕ → Fdt → Touched
 removed-of t f = maybe (record { yes = false; fdt = f }) (λ k. record {
   yes = true;
   fdt = if sends (slot-at (f .slots) k) then unlisted-of f k else maybe f (freed-of f t k) (place (λ j. eqb j k) (waiting f));
 }) (listed-place t f)
 
 -- trigger touches an object that is not in transfer
-unfoldable pub triggered-of : ℕ → Time → Fdt → Told
+unfoldable pub triggered-of : ℕ → Time → Fdt → Touched
 triggered-of t start f = maybe (record { yes = false; fdt = f }) (λ k. record {
   yes = true;
   fdt =
@@ -215,7 +221,7 @@ triggered-of t start f = maybe (record { yes = false; fdt = f }) (λ k. record {
 
 -- the slot once its transfer has started
 abbrev pub started-slot : ℕ → Slot → Slot
-started-slot now y = record { holders = y .holders + 1; listed = y .listed; file = with-life (y .file) (started-life (y .file .rule) now (y .file .life)) }
+started-slot now y = record { holders = y .holders + 1; listed = y .listed; file = with-life (y .file) (started-life (y .file .plan) now (y .file .life)) }
 
 -- slot k, at place n of the queue, is taken by a session
 unfoldable pub taken-at : ℕ → Fdt → ℕ → ℕ → Fdt
@@ -233,7 +239,7 @@ ended-file now v = with-life (v .file) (done-life now (v .file .life))
 
 -- is it sent again: still listed, and not expired
 unfoldable pub goes-back : ℕ → Slot → Bool
-goes-back now v = v .listed && not (expired (plan-of (v .file .rule)) (life-of (ended-file now v .life)))
+goes-back now v = v .listed && not (expired (plan-of (v .file .plan)) (life-of (ended-file now v .life)))
 
 -- the slot once its transfer has ended
 abbrev pub ended-slot : ℕ → Slot → Slot
@@ -258,8 +264,8 @@ done-of now k f =
 -- ---- the FDT side
 
 -- a new FDT side; a publish marks every listed object
-abbrev pub announced : Fdt → Announcer → Fdt
-announced f a = record { settings = f .settings; complete = f .complete; tois = f .tois; slots = map published-slot (f .slots); queue = f .queue; queued = f .queued; announcer = a }
+abbrev pub with-published : Fdt → Announcer → Fdt
+with-published f a = record { settings = f .settings; complete = f .complete; tois = f .tois; slots = map published-slot (f .slots); queue = f .queue; queued = f .queued; announcer = a }
 
 abbrev pub with-announcer : Fdt → Announcer → Fdt
 with-announcer f a = record { settings = f .settings; complete = f .complete; tois = f .tois; slots = f .slots; queue = f .queue; queued = f .queued; announcer = a }
@@ -267,50 +273,43 @@ with-announcer f a = record { settings = f .settings; complete = f .complete; to
 -- what a publish says
 abbrev pub publication-said : Publication → Alloc.Said
 publication-said PublicationV.Done = Alloc.Said.done
-publication-said PublicationV.Sizes = Alloc.Said.refused 4
-publication-said PublicationV.Part = Alloc.Said.refused 5
-publication-said PublicationV.Full = Alloc.Said.refused 7
+publication-said (PublicationV.Refused why) = Alloc.Said.refused why
 
--- what an add's answer says: document 01's number of the refusal; none where the object was admitted
-abbrev pub refusal : Admission → Option ℕ
+-- why an add is refused; none where the object was admitted
+abbrev pub refusal : Admission → Option Refusal
 refusal (AdmissionV.Toi t) = none
-refusal AdmissionV.Complete = some 3
-refusal AdmissionV.Sizes = some 4
-refusal AdmissionV.Part = some 5
-refusal AdmissionV.Unknown = some 6
-refusal AdmissionV.Full = some 7
+refusal (AdmissionV.Refused why) = some why
 
 -- publish, refusals 4, 5 and 7 in their order
 unfoldable pub publish-of : ℕ → Part → Fdt → Published
 publish-of now c f =
-    if bad-blocks (f .settings .sizes) (c .size) then record { answer = PublicationV.Sizes; fdt = f }
-    else if bad-fdt-of (f .settings .«fdt_store») c (f .announcer) || eqb (c .size) 0 then record { answer = PublicationV.Part; fdt = f }
-    else if leb waiting-fdts (f .announcer .waiting) then record { answer = PublicationV.Full; fdt = f }
-    else record { answer = PublicationV.Done; fdt = announced f (queued-of now c (f .announcer)) }
+    if bad-blocks (f .settings .sizes) (c .size) then record { answer = PublicationV.Refused Because.Sizes; fdt = f }
+    else if bad-fdt-of (f .settings .«fdt_store») c (f .announcer) || eqb (c .size) 0 then record { answer = PublicationV.Refused Because.Part; fdt = f }
+    else if leb waiting-fdts (f .announcer .waiting) then record { answer = PublicationV.Refused Because.Full; fdt = f }
+    else record { answer = PublicationV.Done; fdt = with-published f (queued-of now c (f .announcer)) }
 
 -- what the test of a draft says
-abbrev pub draft-said : DraftTest → Option ℕ
+abbrev pub draft-said : DraftTest → Option Refusal
 draft-said DraftTestV.Good = none
-draft-said DraftTestV.Sizes = some 4
-draft-said DraftTestV.Part = some 5
+draft-said (DraftTestV.Refused why) = some why
 
 -- a draft of length 0 is none, and is not looked at
 unfoldable pub real-draft : Draft → Draft
 real-draft (DraftV.Given c) = if eqb (c .size) 0 then DraftV.Missing else DraftV.Given c
 real-draft DraftV.Missing = DraftV.Missing
 
-unfoldable pub draft-test-of : Draft → Fdt → Option ℕ
+unfoldable pub draft-test-of : Draft → Fdt → Option Refusal
 draft-test-of DraftV.Missing f = none
-draft-test-of (DraftV.Given c) f = first-of ((4, bad-blocks (f .settings .sizes) (c .size)) ∷ (5, bad-fdt-of (f .settings .«fdt_store») c (f .announcer)) ∷ [])
+draft-test-of (DraftV.Given c) f = first-of ((Because.Sizes, bad-blocks (f .settings .sizes) (c .size)) ∷ (Because.Part, bad-fdt-of (f .settings .«fdt_store») c (f .announcer)) ∷ [])
 
 -- the next FDT; a draft that is taken is published, and so marks every listed object
-unfoldable pub next-fdt-of : ℕ → Draft → Fdt → NextOf
+unfoldable pub next-fdt-of : ℕ → Draft → Fdt → NextFdt
 next-fdt-of now draft f =
-    let r = next-of (fdt-rule (f .settings .«from_start») (f .settings .interval)) (f .settings .validity) now draft (f .announcer) in
-    record { taken = r .taken; starts = r .starts; fdt = if r .taken then announced f (r .announcer) else with-announcer f (r .announcer) }
+    let r = next-of (fdt-plan-of (f .settings .«from_start») (f .settings .interval)) (f .settings .validity) now draft (f .announcer) in
+    record { taken = r .taken; starts = r .starts; fdt = if r .taken then with-published f (r .announcer) else with-announcer f (r .announcer) }
 
 unfoldable pub fdt-done-of : ℕ → Fdt → Fdt
-fdt-done-of now f = with-announcer f (Ann.done-of now (f .announcer))
+fdt-done-of now f = with-announcer f (Ann.current-done now (f .announcer))
 
 -- before the first call
 unfoldable pub opening-fdt : Settings → ToiAllocator → ℕ → Fdt
@@ -321,5 +320,5 @@ opening-fdt z a id = record {
   slots = replicate object-slots no-slot;
   queue = replicate object-slots 0;
   queued = 0;
-  announcer = opening-of id;
+  announcer = new-announcer id;
 }

@@ -7,14 +7,14 @@ use Rattle.sizes.specs.Words.{if_then_else_}
 use Rattle.sizes.specs.Limits.{wide, largest-count, largest-total}
 use Rattle.sizes.specs.declared.partition.Sizes.{Sizes}
 use Rattle.lifecycle.specs.Lifecycle as Def
-use Rattle.lifecycle.specs.Lifecycle.{Plan, tick-of}
+use Rattle.lifecycle.specs.Lifecycle.{tick-of}
 use Rattle.lifecycle.specs.declared.parts.Part.{Part}
 use Rattle.lifecycle.specs.declared.filedesc.Time.{Time}
 use Rattle.lifecycle.specs.declared.filedesc.Carousel.{Carousel}
 use Rattle.lifecycle.specs.declared.filedesc.Carousel.the-variants.{Never, Delay, Interval}
 use Rattle.lifecycle.specs.declared.filedesc.Target.{Target}
 use Rattle.lifecycle.specs.declared.filedesc.Target.the-variants.{AtOnce, Within, By}
-use Rattle.lifecycle.specs.declared.filedesc.Rule.{Rule}
+use Rattle.lifecycle.specs.declared.filedesc.Plan.{Plan}
 use Rattle.lifecycle.specs.declared.filedesc.Life.{Life}
 use Rattle.lifecycle.specs.declared.filedesc.Pace.{Pace}
 use Rattle.lifecycle.specs.declared.filedesc.FileDesc.{FileDesc}
@@ -25,13 +25,13 @@ use Rattle.lifecycle.specs.declared.filedesc.FileDesc.{FileDesc}
 abbrev pub time-of : Time → Option ℕ
 time-of t = if t .known then some (t .at) else none
 
-abbrev pub carousel-of : Rule → Option Def.Carousel
+abbrev pub carousel-of : Plan → Option Def.Carousel
 carousel-of r = if r .repeats then some (if r .«from_start» then Def.Carousel.interval (r .interval) else Def.Carousel.delay (r .interval)) else none
 
-abbrev pub target-of : Rule → Def.Target
+abbrev pub target-of : Plan → Def.Target
 target-of r = if r .paced then (if r .«by_time» then Def.Target.by (r .target) else Def.Target.for (r .target)) else Def.Target.at-once
 
-abbrev pub plan-of : Rule → Plan
+abbrev pub plan-of : Plan → Def.Plan
 plan-of r = record { most = r .most; carousel = carousel-of r; target = target-of r; stop-at-once = r .«stop_at_once» }
 
 -- whether it is transferring is asked apart
@@ -72,10 +72,10 @@ abbrev pub unborn-of : Time → Life
 unborn-of t = record { published = false; transferring = false; count = 0; total = 0; «last_start» = no-time; «last_end» = no-time; «named_start» = t }
 
 abbrev pub with-life : FileDesc → Life → FileDesc
-with-life f x = record { toi = f .toi; priority = f .priority; part = f .part; sizes = f .sizes; rule = f .rule; life = x }
+with-life f x = record { toi = f .toi; priority = f .priority; part = f .part; sizes = f .sizes; plan = f .plan; life = x }
 
 -- start: a carousel that has reached the maximum counts anew
-unfoldable pub started-life : Rule → ℕ → Life → Life
+unfoldable pub started-life : Plan → ℕ → Life → Life
 started-life r now x = record {
   published = x .published;
   transferring = true;
@@ -124,35 +124,35 @@ reset-life t x = record {
 
 -- ---- what is asked, from the inputs
 
-abbrev pub plain-rule : ℕ → Bool → Rule
-plain-rule most stop = record { most = most; repeats = false; «from_start» = false; interval = 0; paced = false; «by_time» = false; target = 0; «stop_at_once» = stop }
+abbrev pub plain-plan : ℕ → Bool → Plan
+plain-plan most stop = record { most = most; repeats = false; «from_start» = false; interval = 0; paced = false; «by_time» = false; target = 0; «stop_at_once» = stop }
 
-abbrev pub repeating : Rule → Bool → ℕ → Rule
+abbrev pub repeating : Plan → Bool → ℕ → Plan
 repeating r start d = record { most = r .most; repeats = true; «from_start» = start; interval = d; paced = r .paced; «by_time» = r .«by_time»; target = r .target; «stop_at_once» = r .«stop_at_once» }
 
-abbrev pub aiming : Rule → Bool → ℕ → Rule
+abbrev pub aiming : Plan → Bool → ℕ → Plan
 aiming r by d = record { most = r .most; repeats = r .repeats; «from_start» = r .«from_start»; interval = r .interval; paced = true; «by_time» = by; target = d; «stop_at_once» = r .«stop_at_once» }
 
-unfoldable pub with-carousel : Rule → Carousel → Rule
+unfoldable pub with-carousel : Plan → Carousel → Plan
 with-carousel r Never = r
 with-carousel r (Delay d) = repeating r (r .«from_start») d
 with-carousel r (Interval d) = repeating r true d
 
-unfoldable pub with-target : Rule → Target → Rule
+unfoldable pub with-target : Plan → Target → Plan
 with-target r AtOnce = r
 with-target r (Within d) = aiming r (r .«by_time») d
 with-target r (By t) = aiming r true t
 
-unfoldable pub rule-named : ℕ → Carousel → Target → Bool → Rule
-rule-named most c t stop = with-target (with-carousel (plain-rule most stop) c) t
+unfoldable pub plan-named : ℕ → Carousel → Target → Bool → Plan
+plan-named most c t stop = with-target (with-carousel (plain-plan most stop) c) t
 
 -- a new object
-abbrev pub file-new : ℕ → ℕ → Part → Sizes → Rule → Time → FileDesc
-file-new toi p c z r t = record { toi = toi; priority = p; part = c; sizes = z; rule = r; life = unborn-of t }
+abbrev pub file-new : ℕ → ℕ → Part → Sizes → Plan → Time → FileDesc
+file-new toi p c z r t = record { toi = toi; priority = p; part = c; sizes = z; plan = r; life = unborn-of t }
 
 -- may a session of priority p start it
 unfoldable pub startable-file : ℕ → ℕ → FileDesc → Bool
-startable-file p now f = eqb (f .priority) p && (not (f .life .transferring) && Def.may-start (plan-of (f .rule)) now (life-of (f .life)))
+startable-file p now f = eqb (f .priority) p && (not (f .life .transferring) && Def.may-start (plan-of (f .plan)) now (life-of (f .life)))
 
 -- ---- pacing
 
@@ -160,10 +160,10 @@ abbrev pub no-pace : Pace
 no-pace = record { paced = false; due = 0; tick = 0 }
 
 -- the time that a transfer has
-abbrev pub duration-of : Rule → ℕ → ℕ
+abbrev pub duration-of : Plan → ℕ → ℕ
 duration-of r now = if r .«by_time» then r .target - now else r .target
 
-unfoldable pub pace-at : Rule → ℕ → ℕ → ℕ → Pace
+unfoldable pub pace-at : Plan → ℕ → ℕ → ℕ → Pace
 pace-at r now l e = if r .paced then record { paced = true; due = now; tick = tick-of (duration-of r now) l e } else no-pace
 
 unfoldable pub ticked-of : Pace → Pace

@@ -98,9 +98,15 @@ abbrev pub elapsed-over : Carousel → ℕ → ℕ → ℕ → Bool
 elapsed-over (delay d) now start end = ltb d (now - end)
 elapsed-over (interval d) now start end = ltb d (now - start)
 
--- may a new round begin: no carousel, the last end or the last start missing, or more than the interval elapsed
+-- may a new round begin, by the carousel, the last end and the last start: where one of them is missing, it may; else if more than the interval has elapsed
+abbrev pub due-after : Option Carousel → ℕ → Option ℕ → Option ℕ → Bool
+due-after none now end start = true
+due-after (some r) now none start = true
+due-after (some r) now (some end) none = true
+due-after (some r) now (some end) (some start) = elapsed-over r now start end
+
 unfoldable pub round-due : Plan → ℕ → Life → Bool
-round-due p now x = maybe true (λ r. maybe true (λ end. maybe true (λ start. elapsed-over r now start end) (x .last-start)) (x .last-end)) (p .carousel)
+round-due p now x = due-after (p .carousel) now (x .last-end) (x .last-start)
 
 -- may start: published, not before the named start, and the maximum is above the count or a new round may begin (priority and transferring are asked elsewhere)
 unfoldable pub may-start : Plan → ℕ → Life → Bool

@@ -1,18 +1,15 @@
 -- The slots of held objects and the queue, as the code has them, and what each search asks.
 use mathlib.Core.Bool.{Bool, false, not, _&&_}
-use mathlib.Core.Option.{Option, none, some}
 use mathlib.Core.List.{List}
 use Prim.Native.Nat.{ℕ}
 use lib.Dec.{eqb}
 use lib.ListN.{getD}
 use Rattle.sizes.specs.Words.{if_then_else_}
 use Rattle.lifecycle.specs.Parts.{shares}
-use Rattle.lifecycle.specs.FileDesc.{no-time, unborn-of, plain-rule, with-life, published-life, startable-file}
+use Rattle.lifecycle.specs.FileDesc.{no-time, unborn-of, plain-plan, with-life, published-life, startable-file}
 use Rattle.lifecycle.specs.declared.parts.Part.{Part}
 use Rattle.lifecycle.specs.declared.filedesc.FileDesc.{FileDesc}
 use Rattle.lifecycle.specs.declared.slots.Slot.{Slot}
-use Rattle.lifecycle.specs.declared.slots.Place.{Place}
-use Rattle.lifecycle.specs.declared.slots.Place.the-variants.{At, Nothing}
 
 -- no object: all zeros
 abbrev pub no-file : FileDesc
@@ -21,7 +18,7 @@ no-file = record {
   priority = 0;
   part = record { start = 0; size = 0 };
   sizes = record { e = 0; b = 0 };
-  rule = plain-rule 0 false;
+  plan = plain-plan 0 false;
   life = unborn-of no-time;
 }
 
@@ -32,11 +29,6 @@ no-slot = record { holders = 0; listed = false; file = no-file }
 -- the slot with this number; past the end it is a free one
 abbrev pub slot-at : List Slot → ℕ → Slot
 slot-at l k = getD l k no-slot
-
--- what a search says
-abbrev pub place-said : Place → Option ℕ
-place-said (At i) = some i
-place-said Nothing = none
 
 -- does nobody hold it
 unfoldable pub is-free : Slot → Bool

@@ -4,14 +4,21 @@ ghost use Prim.Native.Nat.{_<_};
 ghost use Rattle.sizes.specs.Limits.{waiting-fdts};
 ghost use Rattle.sizes.specs.Words.{shut};
 ghost use Rattle.lifecycle.specs.Fdt.{runs-out};
-ghost use Rattle.lifecycle.specs.Announce.{no-instance, first-instance, started-instance, done-instance, fdt-rule, needs-new-of, queued-of, published-of, front-of, start-of, transferring-of, next-of, done-of, waits-of, shares-fdt-of, bad-fdt-of, opening-of, FdtValid};
+ghost use Rattle.lifecycle.specs.Announce.{no-instance, first-instance, started-instance, done-instance, fdt-plan-of, needs-new-of, queued-of, published-of, front-of, start-of, transferring-of, next-of, current-done, waits-of, shares-fdt-of, bad-fdt-of, new-announcer, ValidAnnouncer};
 use crate::filedesc::Life;
-use crate::filedesc::Rule;
+use crate::filedesc::Plan;
 use crate::filedesc::Time;
 use crate::filedesc::elapsed;
 use crate::parts::Part;
 use crate::parts::ends_past;
 use crate::parts::shares;
+use sizes::limits::LARGEST_FDT_ID;
+use sizes::limits::WAITING_FDTS;
+
+const LAST_WAITING: usize = WAITING_FDTS - 1;
+
+// How many ids there are.
+const FDT_IDS: u32 = LARGEST_FDT_ID + 1;
 
 // One FDT.
 #[repr(C)]
@@ -26,14 +33,14 @@ pub struct Instance {
 pub struct Announcer {
     pub fdtid: u32,
     pub last_publish: Time,
-    pub queue: [Instance; 4],
+    pub queue: [Instance; WAITING_FDTS],
     pub waiting: usize,
     pub has_current: bool,
     pub current: Instance,
 }
 
 // What asking for the next FDT comes to: was the draft taken, and does the current one start now?
-pub struct NextFdt {
+pub struct NextInstance {
     pub taken: bool,
     pub starts: bool,
     pub announcer: Announcer,
@@ -46,10 +53,10 @@ pub enum Draft {
 }
 
 // What is asked of every FDT: maximum 1, the set-up's carousel.
-pub fn fdt_rule(from_start: bool, interval: u64) -> Rule
-    ensures { λ r. ⌜ r ≡ fdt-rule «from_start» interval ⌝ }
+pub fn fdt_plan(from_start: bool, interval: u64) -> Plan
+    ensures { λ r. ⌜ r ≡ fdt-plan-of «from_start» interval ⌝ }
 {
-    Rule {
+    Plan {
         most: 1,
         repeats: true,
         from_start,
@@ -90,37 +97,25 @@ pub fn will_expire(validity: u64, elapsed: u64) -> bool
 fn no_fdt() -> Instance
     ensures { λ r. ⌜ r ≡ no-instance ⌝ }
 {
-    let none = Time {
-        known: false,
-        at: 0,
-    };
     Instance {
         id: 0,
         part: Part { start: 0, size: 0 },
-        life: Life {
-            published: false,
-            transferring: false,
-            count: 0,
-            total: 0,
-            last_start: none,
-            last_end: none,
-            named_start: none,
-        },
+        life: Life::new(Time::none()),
     }
 }
 
 // The queue without its front: the others move up, and zeros come in at the end.
-fn moved_up(queue: [Instance; 4]) -> [Instance; 4]
+fn moved_up(queue: [Instance; WAITING_FDTS]) -> [Instance; WAITING_FDTS]
     ensures { λ r. ⌜ r ≡ shut no-instance queue 0 ⌝ }
 {
     let mut out = queue;
     let mut j: usize = 0;
-    while j < 3 {
+    while j < LAST_WAITING {
         let i = out[j + 1];
         out[j] = i;
         j += 1;
     }
-    out[3] = no_fdt();
+    out[LAST_WAITING] = no_fdt();
     out
 }
 
@@ -129,30 +124,16 @@ impl Instance {
     fn new(id: u32, part: Part) -> Instance
         ensures { λ r. ⌜ r ≡ first-instance id part ⌝ }
     {
-        let none = Time {
-            known: false,
-            at: 0,
-        };
-        Instance {
-            id,
-            part,
-            life: Life {
-                published: true,
-                transferring: false,
-                count: 0,
-                total: 0,
-                last_start: none,
-                last_end: none,
-                named_start: none,
-            },
-        }
+        let mut life = Life::new(Time::none());
+        life.published = true;
+        Instance { id, part, life }
     }
 
     // Its transfer starts.
-    fn started(mut self, rule: Rule, now: u64) -> Instance
-        ensures { λ r. ⌜ r ≡ started-instance rule now self ⌝ }
+    fn started(mut self, plan: Plan, now: u64) -> Instance
+        ensures { λ r. ⌜ r ≡ started-instance plan now self ⌝ }
     {
-        self.life = self.life.started(rule, now);
+        self.life = self.life.started(plan, now);
         self
     }
 
@@ -168,16 +149,13 @@ impl Instance {
 impl Announcer {
     // Nothing waits, and nothing is current.
     pub fn new(first_id: u32) -> Announcer
-        ensures { λ r. ⌜ r ≡ opening-of «first_id» ⌝ }
+        ensures { λ r. ⌜ r ≡ new-announcer «first_id» ⌝ }
     {
         let none = no_fdt();
         Announcer {
             fdtid: first_id,
-            last_publish: Time {
-                known: false,
-                at: 0,
-            },
-            queue: [none; 4],
+            last_publish: Time::none(),
+            queue: [none; WAITING_FDTS],
             waiting: 0,
             has_current: false,
             current: none,
@@ -202,7 +180,7 @@ impl Announcer {
 
     // The part waits under the current id, and the id moves on.
     fn with_published(mut self, now: u64, part: Part) -> Announcer
-        requires { ⌜ FdtValid self × (self .waiting < waiting-fdts) ⌝ }
+        requires { ⌜ ValidAnnouncer self × (self .waiting < waiting-fdts) ⌝ }
         ensures { λ r. ⌜ r ≡ queued-of now part self ⌝ }
     {
         let at = self.waiting;
@@ -210,18 +188,18 @@ impl Announcer {
         queue[at] = Instance::new(self.fdtid, part);
         self.queue = queue;
         self.waiting = at + 1;
-        self.fdtid = (self.fdtid + 1) % 0x10_0000;
+        self.fdtid = (self.fdtid + 1) % FDT_IDS;
         self.last_publish.known = true;
         self.last_publish.at = now;
         self
     }
 
-    // The part waits under the current id; where 4 wait, nothing changes.
+    // The part waits under the current id; where the queue is full, nothing changes.
     pub fn published(self, now: u64, part: Part) -> Announcer
-        requires { ⌜ FdtValid self ⌝ }
+        requires { ⌜ ValidAnnouncer self ⌝ }
         ensures { λ r. ⌜ r ≡ published-of now part self ⌝ }
     {
-        if 4 <= self.waiting {
+        if WAITING_FDTS <= self.waiting {
             return self;
         }
         self.with_published(now, part)
@@ -245,25 +223,25 @@ impl Announcer {
     }
 
     // The current one starts if it may.
-    fn with_start(mut self, rule: Rule, now: u64, taken: bool) -> NextFdt
-        ensures { λ r. ⌜ r ≡ start-of rule now taken self ⌝ }
+    fn with_start(mut self, plan: Plan, now: u64, taken: bool) -> NextInstance
+        ensures { λ r. ⌜ r ≡ start-of plan now taken self ⌝ }
     {
         if !self.has_current {
-            return NextFdt {
+            return NextInstance {
                 taken,
                 starts: false,
                 announcer: self,
             };
         }
-        if !rule.may_start_now(self.current.life, now) {
-            return NextFdt {
+        if !plan.may_start_now(self.current.life, now) {
+            return NextInstance {
                 taken,
                 starts: false,
                 announcer: self,
             };
         }
-        self.current = self.current.started(rule, now);
-        NextFdt {
+        self.current = self.current.started(plan, now);
+        NextInstance {
             taken,
             starts: true,
             announcer: self,
@@ -283,16 +261,16 @@ impl Announcer {
     // The next FDT: nothing new while the current one is transferring; else republish if needed, take the front, start it if it may.
     pub fn get_next_fdt_transfer(
         mut self,
-        rule: Rule,
+        plan: Plan,
         validity: u64,
         now: u64,
         draft: Draft,
-    ) -> NextFdt
-        requires { ⌜ FdtValid self ⌝ }
-        ensures { λ r. ⌜ r ≡ next-of rule validity now draft self ⌝ }
+    ) -> NextInstance
+        requires { ⌜ ValidAnnouncer self ⌝ }
+        ensures { λ r. ⌜ r ≡ next-of plan validity now draft self ⌝ }
     {
         if self.is_transferring() {
-            return NextFdt {
+            return NextInstance {
                 taken: false,
                 starts: false,
                 announcer: self,
@@ -300,20 +278,20 @@ impl Announcer {
         }
         if !self.needs_new(validity, now) {
             self = self.with_front();
-            return self.with_start(rule, now, false);
+            return self.with_start(plan, now, false);
         }
         let Draft::Given(part) = draft else {
             self = self.with_front();
-            return self.with_start(rule, now, false);
+            return self.with_start(plan, now, false);
         };
         self = self.with_published(now, part);
         self = self.with_front();
-        self.with_start(rule, now, true)
+        self.with_start(plan, now, true)
     }
 
     // The current one is done. It has a carousel, so it stays current.
     pub fn fdt_transfer_done(mut self, now: u64) -> Announcer
-        ensures { λ r. ⌜ r ≡ done-of now self ⌝ }
+        ensures { λ r. ⌜ r ≡ current-done now self ⌝ }
     {
         if !self.has_current {
             return self;
@@ -331,7 +309,7 @@ impl Announcer {
 
     // Does a part share a byte with that of an FDT that waits, or of the current one?
     pub fn shares_fdt(self, c: Part) -> bool
-        requires { ⌜ FdtValid self ⌝ }
+        requires { ⌜ ValidAnnouncer self ⌝ }
         ensures { λ r. ⌜ r ≡ shares-fdt-of c self ⌝ }
     {
         let n = self.waiting;
@@ -352,7 +330,7 @@ impl Announcer {
 
     // Is a part no good for an FDT: it ends past the store, or shares a byte with a held one?
     pub fn bad_fdt_part(self, store: u64, c: Part) -> bool
-        requires { ⌜ FdtValid self ⌝ }
+        requires { ⌜ ValidAnnouncer self ⌝ }
         ensures { λ r. ⌜ r ≡ bad-fdt-of store c self ⌝ }
     {
         if ends_past(store, c) {

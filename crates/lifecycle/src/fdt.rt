@@ -5,30 +5,40 @@ ghost use Prim.Native.Nat.{_<_, _≤_};
 ghost use lib.Dec.{eqb};
 ghost use lib.ListN.{take};
 ghost use Rattle.sizes.specs.Words.{place, shut, within, Each};
+ghost use Rattle.sizes.specs.Limits.{object-slots};
+ghost use Rattle.sizes.specs.Place.{place-said};
 ghost use Rattle.lifecycle.specs.Setup.{sound-sizes, bad-blocks};
-ghost use Rattle.lifecycle.specs.FdtCalls.{own-of, bad-part-of, put-of, reserved-of, released-of, fresh-of, named-of, added-of, is-added-of, transfers-of, transfers-said, unlisted-of, freed-of, removed-of, triggered-of, taken-at, taken-of, back-of, let-go-of, done-of, completed-of, Valid};
-ghost use Rattle.lifecycle.specs.Slots.{slot-at, place-said, queue-startable};
+ghost use Rattle.lifecycle.specs.FdtCalls.{own-of, bad-part-of, put-of, reserved-of, released-of, fresh-of, named-of, added-of, is-added-of, transfers-of, transfers-said, unlisted-of, freed-of, removed-of, triggered-of, taken-at, taken-of, back-of, let-go-of, done-of, completed-of, ValidFdt};
+ghost use Rattle.lifecycle.specs.Slots.{slot-at, queue-startable};
 ghost use Rattle.lifecycle.specs.Announce.{waits-of};
-ghost use Rattle.lifecycle.specs.FdtCalls.{announced as announced-of, opening-fdt, publish-of, draft-said, real-draft, draft-test-of, next-fdt-of, fdt-done-of};
+ghost use Rattle.lifecycle.specs.FdtCalls.{with-published as announced-of, opening-fdt, publish-of, draft-said, real-draft, draft-test-of, next-fdt-of, fdt-done-of};
 use crate::announce::Announcer;
 use crate::announce::Draft;
-use crate::announce::fdt_rule;
+use crate::announce::fdt_plan;
 use crate::filedesc::FileDesc;
-use crate::filedesc::Rule;
+use crate::filedesc::Plan;
 use crate::filedesc::Time;
 use crate::parts::Part;
 use crate::parts::ends_past;
-use crate::slots::Place;
 use crate::slots::Slot;
 use crate::slots::any_shares;
 use crate::slots::free_slot;
 use crate::slots::listed_slot;
 use crate::slots::mark_published;
+use sizes::limits::LARGEST_BLOCK;
+use sizes::limits::LARGEST_SYMBOL;
+use sizes::limits::MOST_BLOCKS;
+use sizes::limits::OBJECT_SLOTS;
+use sizes::limits::WAITING_FDTS;
 use sizes::partition::Sizes;
 use sizes::partition::block_partitioning;
+use sizes::place::Place;
+use sizes::refusal::Refusal;
 use sizes::toiallocator::Given;
 use sizes::toiallocator::Known;
 use sizes::toiallocator::ToiAllocator;
+
+const LAST_SLOT: usize = OBJECT_SLOTS - 1;
 
 // What the set-up names once: the stores' lengths, E and B, and the FDTs' validity and carousel.
 #[repr(C)]
@@ -47,8 +57,8 @@ pub struct Fdt {
     pub settings: Settings,
     pub complete: bool,
     pub tois: ToiAllocator,
-    pub slots: [Slot; 32],
-    pub queue: [usize; 32],
+    pub slots: [Slot; OBJECT_SLOTS],
+    pub queue: [usize; OBJECT_SLOTS],
     pub queued: usize,
     pub announcer: Announcer,
 }
@@ -70,18 +80,14 @@ pub struct Request {
     pub priority: u32,
     pub part: Part,
     pub own: Own,
-    pub rule: Rule,
+    pub plan: Plan,
     pub start: Time,
 }
 
 // The number of an admitted object, or why it is refused.
 pub enum Admission {
     Toi(u64),
-    Complete,
-    Sizes,
-    Part,
-    Unknown,
-    Full,
+    Refused(Refusal),
 }
 
 pub struct Added {
@@ -100,7 +106,7 @@ pub struct Released {
 }
 
 // Yes or no.
-pub struct Told {
+pub struct Touched {
     pub yes: bool,
     pub fdt: Fdt,
 }
@@ -120,9 +126,7 @@ pub struct Taken {
 // A publish that was done, or why it was not.
 pub enum Publication {
     Done,
-    Sizes,
-    Part,
-    Full,
+    Refused(Refusal),
 }
 
 pub struct Published {
@@ -133,12 +137,11 @@ pub struct Published {
 // Is a draft good, or why not.
 pub enum DraftTest {
     Good,
-    Sizes,
-    Part,
+    Refused(Refusal),
 }
 
 // What asking for the next FDT comes to: was the draft taken, and does the current FDT start now?
-pub struct NextOf {
+pub struct NextFdt {
     pub taken: bool,
     pub starts: bool,
     pub fdt: Fdt,
@@ -168,7 +171,7 @@ pub fn is_within(low: u64, high: u64, n: u64) -> bool
 pub fn are_sound_sizes(z: Sizes) -> bool
     ensures { λ r. ⌜ r ≡ sound-sizes z ⌝ }
 {
-    is_within(1, 65535, z.e) && is_within(1, 65535, z.b)
+    is_within(1, LARGEST_SYMBOL, z.e) && is_within(1, LARGEST_BLOCK, z.b)
 }
 
 // Are E, B or the block count of l bytes out of range?
@@ -178,7 +181,7 @@ pub fn are_bad_blocks(z: Sizes, l: u64) -> bool
     if !are_sound_sizes(z) {
         return true;
     }
-    65535 < block_partitioning(z.b, l, z.e).blocks
+    MOST_BLOCKS < block_partitioning(z.b, l, z.e).blocks
 }
 
 // An object's own E and B, or the set-up's.
@@ -193,13 +196,13 @@ fn own_sizes(own: Own, z: Sizes) -> Sizes
 
 // The place in the queue of the first object that a session of this priority may start now.
 fn first_startable(
-    slots: [Slot; 32],
-    queue: [usize; 32],
+    slots: [Slot; OBJECT_SLOTS],
+    queue: [usize; OBJECT_SLOTS],
     queued: usize,
     priority: u32,
     now: u64,
 ) -> Place
-    requires { ⌜ (queued ≤ 32) × Each (λ k. k < 32) (take queued queue) ⌝ }
+    requires { ⌜ (queued ≤ object-slots) × Each (λ k. k < object-slots) (take queued queue) ⌝ }
     ensures { λ r. ⌜ place-said r ≡ place (queue-startable slots priority now) (take queued queue) ⌝ }
 {
     let mut i: usize = 0;
@@ -215,8 +218,8 @@ fn first_startable(
 }
 
 // The place of a slot in the queue.
-fn queue_place(queue: [usize; 32], queued: usize, slot: usize) -> Place
-    requires { ⌜ queued ≤ 32 ⌝ }
+fn queue_place(queue: [usize; OBJECT_SLOTS], queued: usize, slot: usize) -> Place
+    requires { ⌜ queued ≤ object-slots ⌝ }
     ensures { λ r. ⌜ place-said r ≡ place (λ k. eqb k slot) (take queued queue) ⌝ }
 {
     let mut i: usize = 0;
@@ -230,18 +233,18 @@ fn queue_place(queue: [usize; 32], queued: usize, slot: usize) -> Place
 }
 
 // The queue without the entry at `at`: the later ones move up.
-fn queue_closed(queue: [usize; 32], at: usize) -> [usize; 32]
-    requires { ⌜ at < 32 ⌝ }
+fn queue_closed(queue: [usize; OBJECT_SLOTS], at: usize) -> [usize; OBJECT_SLOTS]
+    requires { ⌜ at < object-slots ⌝ }
     ensures { λ r. ⌜ r ≡ shut 0 queue at ⌝ }
 {
     let mut out = queue;
     let mut j = at;
-    while j < 31 {
+    while j < LAST_SLOT {
         let k = out[j + 1];
         out[j] = k;
         j += 1;
     }
-    out[31] = 0;
+    out[LAST_SLOT] = 0;
     out
 }
 
@@ -259,7 +262,7 @@ impl Fdt {
 
     // A number is reserved.
     pub fn allocate_toi(mut self) -> Reserved
-        requires { ⌜ Valid self ⌝ }
+        requires { ⌜ ValidFdt self ⌝ }
         ensures { λ r. ⌜ r ≡ reserved-of self ⌝ }
     {
         let r = self.tois.allocate(true);
@@ -271,7 +274,7 @@ impl Fdt {
 
     // A loose reservation is let go.
     pub fn release_toi(mut self, toi: u64) -> Released
-        requires { ⌜ Valid self ⌝ }
+        requires { ⌜ ValidFdt self ⌝ }
         ensures { λ r. ⌜ r ≡ released-of toi self ⌝ }
     {
         let r = self.tois.release(toi);
@@ -283,10 +286,10 @@ impl Fdt {
 
     // A new object in slot k, at the queue's end.
     fn put(mut self, k: usize, toi: u64, q: Request, z: Sizes) -> Fdt
-        requires { ⌜ (k < 32) × (self .queued < 32) ⌝ }
+        requires { ⌜ (k < object-slots) × (self .queued < object-slots) ⌝ }
         ensures { λ r. ⌜ r ≡ put-of self k toi q z ⌝ }
     {
-        let file = FileDesc::new(toi, q.priority, q.part, z, q.rule, q.start);
+        let file = FileDesc::new(toi, q.priority, q.part, z, q.plan, q.start);
         let mut slots = self.slots;
         let n = self.queued;
         let mut queue = self.queue;
@@ -304,19 +307,19 @@ impl Fdt {
 
     // An add that names a reservation.
     fn add_named(mut self, q: Request, z: Sizes, toi: u64) -> Added
-        requires { ⌜ Valid self ⌝ }
+        requires { ⌜ ValidFdt self ⌝ }
         ensures { λ r. ⌜ r ≡ named-of self q z toi ⌝ }
     {
         if !self.tois.is_loose(toi) {
             return Added {
-                answer: Admission::Unknown,
+                answer: Admission::Refused(Refusal::NotLoose),
                 fdt: self,
             };
         }
         let slots = self.slots;
         let Place::At(k) = free_slot(slots) else {
             return Added {
-                answer: Admission::Full,
+                answer: Admission::Refused(Refusal::Full),
                 fdt: self,
             };
         };
@@ -331,13 +334,13 @@ impl Fdt {
 
     // An add that names no reservation.
     fn add_fresh(mut self, q: Request, z: Sizes) -> Added
-        requires { ⌜ Valid self ⌝ }
+        requires { ⌜ ValidFdt self ⌝ }
         ensures { λ r. ⌜ r ≡ fresh-of self q z ⌝ }
     {
         let slots = self.slots;
         let Place::At(k) = free_slot(slots) else {
             return Added {
-                answer: Admission::Full,
+                answer: Admission::Refused(Refusal::Full),
                 fdt: self,
             };
         };
@@ -345,7 +348,7 @@ impl Fdt {
         let answer = r.answer;
         let Given::Number(toi) = answer else {
             return Added {
-                answer: Admission::Full,
+                answer: Admission::Refused(Refusal::Full),
                 fdt: self,
             };
         };
@@ -360,12 +363,12 @@ impl Fdt {
 
     // An object is admitted, or refused by the first reason of 3 to 7. Whether a session has its priority (2) is asked above.
     pub fn add_object(self, q: Request, named: Named) -> Added
-        requires { ⌜ Valid self ⌝ }
+        requires { ⌜ ValidFdt self ⌝ }
         ensures { λ r. ⌜ r ≡ added-of self q named ⌝ }
     {
         if self.complete {
             return Added {
-                answer: Admission::Complete,
+                answer: Admission::Refused(Refusal::Complete),
                 fdt: self,
             };
         }
@@ -373,13 +376,13 @@ impl Fdt {
         let z = own_sizes(own, self.settings.sizes);
         if are_bad_blocks(z, q.part.size) {
             return Added {
-                answer: Admission::Sizes,
+                answer: Admission::Refused(Refusal::Sizes),
                 fdt: self,
             };
         }
         if self.is_bad_part(q.part) {
             return Added {
-                answer: Admission::Part,
+                answer: Admission::Refused(Refusal::Part),
                 fdt: self,
             };
         }
@@ -402,7 +405,7 @@ impl Fdt {
 
     // The total transfers of the listed object with this number.
     pub fn nb_transfers(self, toi: u64) -> Transfers
-        requires { ⌜ Valid self ⌝ }
+        requires { ⌜ ValidFdt self ⌝ }
         ensures { λ r. ⌜ transfers-said r ≡ transfers-of toi self ⌝ }
     {
         let slots = self.slots;
@@ -414,7 +417,7 @@ impl Fdt {
 
     // The list lets go of slot k, which a session sends.
     fn unlisted(mut self, k: usize) -> Fdt
-        requires { ⌜ Valid self × (k < 32) × (0 < slot-at (self .slots) k .holders) ⌝ }
+        requires { ⌜ ValidFdt self × (k < object-slots) × (0 < slot-at (self .slots) k .holders) ⌝ }
         ensures { λ r. ⌜ r ≡ unlisted-of self k ⌝ }
     {
         let mut slots = self.slots;
@@ -426,7 +429,7 @@ impl Fdt {
 
     // Slot k, which waits at place n of the queue, is free.
     fn freed(mut self, toi: u64, k: usize, n: usize) -> Fdt
-        requires { ⌜ Valid self × (k < 32) × (n < self .queued) ⌝ }
+        requires { ⌜ ValidFdt self × (k < object-slots) × (n < self .queued) ⌝ }
         ensures { λ r. ⌜ r ≡ freed-of self toi k n ⌝ }
     {
         let mut slots = self.slots;
@@ -442,53 +445,53 @@ impl Fdt {
     }
 
     // The listed object with this number leaves the list; a session that sends it keeps it.
-    pub fn remove_object(mut self, toi: u64) -> Told
-        requires { ⌜ Valid self ⌝ }
+    pub fn remove_object(mut self, toi: u64) -> Touched
+        requires { ⌜ ValidFdt self ⌝ }
         ensures { λ r. ⌜ r ≡ removed-of toi self ⌝ }
     {
         let slots = self.slots;
         let Place::At(k) = listed_slot(slots, toi) else {
-            return Told {
+            return Touched {
                 yes: false,
                 fdt: self,
             };
         };
         if slots[k].file.life.transferring {
             self = self.unlisted(k);
-            return Told {
+            return Touched {
                 yes: true,
                 fdt: self,
             };
         }
         let queue = self.queue;
         let Place::At(n) = queue_place(queue, self.queued, k) else {
-            return Told {
+            return Touched {
                 yes: true,
                 fdt: self,
             };
         };
         self = self.freed(toi, k, n);
-        Told {
+        Touched {
             yes: true,
             fdt: self,
         }
     }
 
     // A listed object that is not in transfer may start anew.
-    pub fn trigger_transfer_at(mut self, toi: u64, start: Time) -> Told
-        requires { ⌜ Valid self ⌝ }
+    pub fn trigger_transfer_at(mut self, toi: u64, start: Time) -> Touched
+        requires { ⌜ ValidFdt self ⌝ }
         ensures { λ r. ⌜ r ≡ triggered-of toi start self ⌝ }
     {
         let mut slots = self.slots;
         let Place::At(k) = listed_slot(slots, toi) else {
-            return Told {
+            return Touched {
                 yes: false,
                 fdt: self,
             };
         };
         let mut v = slots[k];
         if v.file.life.transferring {
-            return Told {
+            return Touched {
                 yes: true,
                 fdt: self,
             };
@@ -496,7 +499,7 @@ impl Fdt {
         v.file = v.file.reset_last_transfer(start);
         slots[k] = v;
         self.slots = slots;
-        Told {
+        Touched {
             yes: true,
             fdt: self,
         }
@@ -512,7 +515,7 @@ impl Fdt {
 
     // Slot k, at place n of the queue, is taken by a session.
     fn taken(mut self, now: u64, n: usize, k: usize) -> Fdt
-        requires { ⌜ Valid self × (k < 32) × (n < self .queued) ⌝ }
+        requires { ⌜ ValidFdt self × (k < object-slots) × (n < self .queued) ⌝ }
         ensures { λ r. ⌜ r ≡ taken-at now self n k ⌝ }
     {
         let mut slots = self.slots;
@@ -530,7 +533,7 @@ impl Fdt {
 
     // The first object in the queue that a session of this priority may start, taken.
     pub fn get_next_file_transfer(mut self, priority: u32, now: u64) -> Taken
-        requires { ⌜ Valid self ⌝ }
+        requires { ⌜ ValidFdt self ⌝ }
         ensures { λ r. ⌜ r ≡ taken-of priority now self ⌝ }
     {
         let slots = self.slots;
@@ -551,7 +554,7 @@ impl Fdt {
 
     // Slot k, whose transfer has ended, goes to the queue's end.
     fn back(mut self, now: u64, k: usize) -> Fdt
-        requires { ⌜ Valid self × (k < 32) × (self .queued < 32) × (0 < slot-at (self .slots) k .holders) ⌝ }
+        requires { ⌜ ValidFdt self × (k < object-slots) × (self .queued < object-slots) × (0 < slot-at (self .slots) k .holders) ⌝ }
         ensures { λ r. ⌜ r ≡ back-of now self k ⌝ }
     {
         let mut slots = self.slots;
@@ -570,7 +573,7 @@ impl Fdt {
 
     // Slot k is free, and its number too.
     fn let_go(mut self, k: usize) -> Fdt
-        requires { ⌜ Valid self × (k < 32) ⌝ }
+        requires { ⌜ ValidFdt self × (k < object-slots) ⌝ }
         ensures { λ r. ⌜ r ≡ let-go-of self k ⌝ }
     {
         let mut slots = self.slots;
@@ -583,10 +586,10 @@ impl Fdt {
 
     // The session that sends slot k is done with it: it is sent again, or let go.
     pub fn transfer_done(self, k: usize, now: u64) -> Fdt
-        requires { ⌜ Valid self ⌝ }
+        requires { ⌜ ValidFdt self ⌝ }
         ensures { λ r. ⌜ r ≡ done-of now k self ⌝ }
     {
-        if 32 <= k {
+        if OBJECT_SLOTS <= k {
             return self;
         }
         let slots = self.slots;
@@ -613,8 +616,8 @@ impl Fdt {
             settings,
             complete: false,
             tois,
-            slots: [none; 32],
-            queue: [0; 32],
+            slots: [none; OBJECT_SLOTS],
+            queue: [0; OBJECT_SLOTS],
             queued: 0,
             announcer,
         }
@@ -633,30 +636,30 @@ impl Fdt {
 
     // The part is queued as the next FDT, or refused by the first reason of 4, 5 and 7.
     pub fn publish(mut self, now: u64, c: Part) -> Published
-        requires { ⌜ Valid self ⌝ }
+        requires { ⌜ ValidFdt self ⌝ }
         ensures { λ r. ⌜ r ≡ publish-of now c self ⌝ }
     {
         if are_bad_blocks(self.settings.sizes, c.size) {
             return Published {
-                answer: Publication::Sizes,
+                answer: Publication::Refused(Refusal::Sizes),
                 fdt: self,
             };
         }
         if self.announcer.bad_fdt_part(self.settings.fdt_store, c) {
             return Published {
-                answer: Publication::Part,
+                answer: Publication::Refused(Refusal::Part),
                 fdt: self,
             };
         }
         if c.size == 0 {
             return Published {
-                answer: Publication::Part,
+                answer: Publication::Refused(Refusal::Part),
                 fdt: self,
             };
         }
-        if 4 <= self.announcer.waiting {
+        if WAITING_FDTS <= self.announcer.waiting {
             return Published {
-                answer: Publication::Full,
+                answer: Publication::Refused(Refusal::Full),
                 fdt: self,
             };
         }
@@ -670,17 +673,17 @@ impl Fdt {
 
     // Is a draft good for an FDT run? One that is missing is not looked at.
     pub fn test_draft(self, draft: Draft) -> DraftTest
-        requires { ⌜ Valid self ⌝ }
+        requires { ⌜ ValidFdt self ⌝ }
         ensures { λ r. ⌜ draft-said r ≡ draft-test-of draft self ⌝ }
     {
         let Draft::Given(c) = draft else {
             return DraftTest::Good;
         };
         if are_bad_blocks(self.settings.sizes, c.size) {
-            return DraftTest::Sizes;
+            return DraftTest::Refused(Refusal::Sizes);
         }
         if self.announcer.bad_fdt_part(self.settings.fdt_store, c) {
-            return DraftTest::Part;
+            return DraftTest::Refused(Refusal::Part);
         }
         DraftTest::Good
     }
@@ -693,24 +696,24 @@ impl Fdt {
     }
 
     // The next FDT, with a draft that is good or missing.
-    pub fn get_next_fdt_transfer(mut self, now: u64, draft: Draft) -> NextOf
-        requires { ⌜ Valid self ⌝ }
+    pub fn get_next_fdt_transfer(mut self, now: u64, draft: Draft) -> NextFdt
+        requires { ⌜ ValidFdt self ⌝ }
         ensures { λ r. ⌜ r ≡ next-fdt-of now draft self ⌝ }
     {
-        let rule = fdt_rule(self.settings.from_start, self.settings.interval);
+        let plan = fdt_plan(self.settings.from_start, self.settings.interval);
         let n = self.announcer
-            .get_next_fdt_transfer(rule, self.settings.validity, now, draft);
+            .get_next_fdt_transfer(plan, self.settings.validity, now, draft);
         let announcer = n.announcer;
         if n.taken {
             self = self.announced(announcer);
-            return NextOf {
+            return NextFdt {
                 taken: true,
                 starts: n.starts,
                 fdt: self,
             };
         }
         self.announcer = announcer;
-        NextOf {
+        NextFdt {
             taken: false,
             starts: n.starts,
             fdt: self,

@@ -4,9 +4,12 @@ ghost use Prim.Native.Nat.{_+_, _-_, _<_, min, max};
 ghost use lib.Dec.{ltb};
 ghost use mathlib.Core.Bool.{false};
 ghost use Rattle.sizes.specs.Words.{maybe};
+ghost use Rattle.sizes.specs.Limits.{largest-count, largest-total};
 ghost use Rattle.lifecycle.specs.Lifecycle.{expired, is-last, may-start, may-stop, too-early, round-due};
-ghost use Rattle.lifecycle.specs.FileDesc.{time-of, plan-of, life-of, pace-said, with-life, started-life, done-life, published-life, reset-life, rule-named, with-carousel, with-target, pace-at, ticked-of, file-new, startable-file};
+ghost use Rattle.lifecycle.specs.FileDesc.{time-of, plan-of, life-of, pace-said, no-time, no-pace, unborn-of, with-life, started-life, done-life, published-life, reset-life, plan-named, with-carousel, with-target, pace-at, ticked-of, file-new, startable-file};
 use crate::parts::Part;
+use sizes::limits::LARGEST_COUNT;
+use sizes::limits::LARGEST_TOTAL;
 use sizes::partition::Sizes;
 use sizes::partition::div_ceil;
 
@@ -33,7 +36,7 @@ pub enum Target {
 
 // What is asked of an object: the maximum of transfers, the carousel, the target, and whether it may be stopped at once.
 #[repr(C)]
-pub struct Rule {
+pub struct Plan {
     pub most: u32,
     pub repeats: bool,
     pub from_start: bool,
@@ -63,7 +66,7 @@ pub struct FileDesc {
     pub priority: u32,
     pub part: Part,
     pub sizes: Sizes,
-    pub rule: Rule,
+    pub plan: Plan,
     pub life: Life,
 }
 
@@ -73,6 +76,18 @@ pub struct Pace {
     pub paced: bool,
     pub due: u64,
     pub tick: u64,
+}
+
+impl Time {
+    // No time.
+    pub fn none() -> Time
+        ensures { λ r. ⌜ r ≡ no-time ⌝ }
+    {
+        Time {
+            known: false,
+            at: 0,
+        }
+    }
 }
 
 // How much time has passed since; a clock behind counts as none.
@@ -92,7 +107,7 @@ fn is_before(now: u64, t: Time) -> bool
     now < t.at
 }
 
-impl Rule {
+impl Plan {
     // Is the maximum of transfers reached, with no carousel?
     fn is_expired(self, x: Life) -> bool
         ensures { λ r. ⌜ r ≡ expired (plan-of self) (life-of x) ⌝ }
@@ -153,12 +168,12 @@ impl Rule {
     }
 }
 
-impl Rule {
+impl Plan {
     // What is asked, put together from its parts.
-    pub fn new(most: u32, carousel: Carousel, target: Target, stop_at_once: bool) -> Rule
-        ensures { λ r. ⌜ r ≡ rule-named most carousel target «stop_at_once» ⌝ }
+    pub fn new(most: u32, carousel: Carousel, target: Target, stop_at_once: bool) -> Plan
+        ensures { λ r. ⌜ r ≡ plan-named most carousel target «stop_at_once» ⌝ }
     {
-        let plain = Rule {
+        let plain = Plan {
             most,
             repeats: false,
             from_start: false,
@@ -171,7 +186,7 @@ impl Rule {
         plain.with_carousel(carousel).with_target(target)
     }
 
-    fn with_carousel(mut self, c: Carousel) -> Rule
+    fn with_carousel(mut self, c: Carousel) -> Plan
         ensures { λ r. ⌜ r ≡ with-carousel self c ⌝ }
     {
         match c {
@@ -189,7 +204,7 @@ impl Rule {
         self
     }
 
-    fn with_target(mut self, t: Target) -> Rule
+    fn with_target(mut self, t: Target) -> Plan
         ensures { λ r. ⌜ r ≡ with-target self t ⌝ }
     {
         match t {
@@ -222,11 +237,7 @@ impl Rule {
         ensures { λ r. ⌜ r ≡ pace-at self now l e ⌝ }
     {
         if !self.paced {
-            return Pace {
-                paced: false,
-                due: 0,
-                tick: 0,
-            };
+            return Pace::none();
         }
         let packets = at_least_one(div_ceil(l, e));
         if self.by_time {
@@ -251,6 +262,17 @@ fn at_least_one(n: u64) -> u64
 }
 
 impl Pace {
+    // No pace: each packet is due at once.
+    pub fn none() -> Pace
+        ensures { λ r. ⌜ r ≡ no-pace ⌝ }
+    {
+        Pace {
+            paced: false,
+            due: 0,
+            tick: 0,
+        }
+    }
+
     // A packet moves the due time by one tick, unless the sum passes 64 bits.
     pub fn ticked(self) -> Pace
         ensures { λ r. ⌜ r ≡ ticked-of self ⌝ }
@@ -285,38 +307,26 @@ impl FileDesc {
         priority: u32,
         part: Part,
         sizes: Sizes,
-        rule: Rule,
+        plan: Plan,
         start: Time,
     ) -> FileDesc
-        ensures { λ r. ⌜ r ≡ file-new toi priority part sizes rule start ⌝ }
+        ensures { λ r. ⌜ r ≡ file-new toi priority part sizes plan start ⌝ }
     {
-        let none = Time {
-            known: false,
-            at: 0,
-        };
         FileDesc {
             toi,
             priority,
             part,
             sizes,
-            rule,
-            life: Life {
-                published: false,
-                transferring: false,
-                count: 0,
-                total: 0,
-                last_start: none,
-                last_end: none,
-                named_start: start,
-            },
+            plan,
+            life: Life::new(start),
         }
     }
 
     // A transfer starts.
     pub fn transfer_started(mut self, now: u64) -> FileDesc
-        ensures { λ r. ⌜ r ≡ with-life self (started-life (self .rule) now (self .life)) ⌝ }
+        ensures { λ r. ⌜ r ≡ with-life self (started-life (self .plan) now (self .life)) ⌝ }
     {
-        self.life = self.life.started(self.rule, now);
+        self.life = self.life.started(self.plan, now);
         self
     }
 
@@ -345,16 +355,16 @@ impl FileDesc {
 
     // Is the maximum of transfers reached, with no carousel?
     pub fn is_expired(self) -> bool
-        ensures { λ r. ⌜ r ≡ expired (plan-of (self .rule)) (life-of (self .life)) ⌝ }
+        ensures { λ r. ⌜ r ≡ expired (plan-of (self .plan)) (life-of (self .life)) ⌝ }
     {
-        self.rule.is_expired(self.life)
+        self.plan.is_expired(self.life)
     }
 
     // Is the transfer under way the last one?
     pub fn is_last_transfer(self) -> bool
-        ensures { λ r. ⌜ r ≡ is-last (plan-of (self .rule)) (life-of (self .life)) ⌝ }
+        ensures { λ r. ⌜ r ≡ is-last (plan-of (self .plan)) (life-of (self .life)) ⌝ }
     {
-        self.rule.is_last_transfer(self.life)
+        self.plan.is_last_transfer(self.life)
     }
 
     // May a session of this priority start it now?
@@ -367,27 +377,43 @@ impl FileDesc {
         if self.life.transferring {
             return false;
         }
-        self.rule.may_start_now(self.life, now)
+        self.plan.may_start_now(self.life, now)
     }
 
     // May its transfer be cut short?
     pub fn can_transfer_be_stopped(self) -> bool
-        ensures { λ r. ⌜ r ≡ may-stop (plan-of (self .rule)) (life-of (self .life)) ⌝ }
+        ensures { λ r. ⌜ r ≡ may-stop (plan-of (self .plan)) (life-of (self .life)) ⌝ }
     {
-        self.rule.may_be_stopped(self.life)
+        self.plan.may_be_stopped(self.life)
     }
 
     // The pace of its next transfer, which starts now.
     pub fn pace_from(self, now: u64) -> Pace
-        ensures { λ r. ⌜ r ≡ pace-at (self .rule) now (self .part .size) (self .sizes .e) ⌝ }
+        ensures { λ r. ⌜ r ≡ pace-at (self .plan) now (self .part .size) (self .sizes .e) ⌝ }
     {
-        self.rule.pace(now, self.part.size, self.sizes.e)
+        self.plan.pace(now, self.part.size, self.sizes.e)
     }
 }
 
 impl Life {
+    // Nothing has happened yet.
+    pub fn new(named_start: Time) -> Life
+        ensures { λ r. ⌜ r ≡ unborn-of «named_start» ⌝ }
+    {
+        let none = Time::none();
+        Life {
+            published: false,
+            transferring: false,
+            count: 0,
+            total: 0,
+            last_start: none,
+            last_end: none,
+            named_start,
+        }
+    }
+
     // A transfer starts.
-    pub fn started(mut self, r: Rule, now: u64) -> Life
+    pub fn started(mut self, r: Plan, now: u64) -> Life
         ensures { λ s. ⌜ s ≡ started-life r now self ⌝ }
     {
         self.transferring = true;
@@ -418,10 +444,7 @@ impl Life {
     fn reset(mut self, start: Time) -> Life
         ensures { λ s. ⌜ s ≡ reset-life start self ⌝ }
     {
-        let none = Time {
-            known: false,
-            at: 0,
-        };
+        let none = Time::none();
         self.last_start = none;
         self.last_end = none;
         if start.known {
@@ -431,16 +454,16 @@ impl Life {
     }
 }
 
-// One more, up to the largest number of 32 bits.
+// One more, up to the largest count.
 fn up32(n: u32) -> u32
-    ensures { λ r. ⌜ r ≡ min (n + 1) 4294967295 ⌝ }
+    ensures { λ r. ⌜ r ≡ min (n + 1) largest-count ⌝ }
 {
-    if n < 0xFFFF_FFFF { n + 1 } else { n }
+    if n < LARGEST_COUNT { n + 1 } else { n }
 }
 
-// One more, up to the largest number of 64 bits.
+// One more, up to the largest total.
 fn up64(n: u64) -> u64
-    ensures { λ r. ⌜ r ≡ min (n + 1) 18446744073709551615 ⌝ }
+    ensures { λ r. ⌜ r ≡ min (n + 1) largest-total ⌝ }
 {
-    if n < 0xFFFF_FFFF_FFFF_FFFF { n + 1 } else { n }
+    if n < LARGEST_TOTAL { n + 1 } else { n }
 }

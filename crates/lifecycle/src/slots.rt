@@ -2,14 +2,17 @@
 ghost use mathlib.Core.Path.{_≡_};
 ghost use mathlib.Core.List.{map};
 ghost use Rattle.sizes.specs.Words.{place, any};
-ghost use Rattle.lifecycle.specs.Slots.{no-slot, place-said, is-free, is-listed-as, holds-byte, published-slot};
+ghost use Rattle.sizes.specs.Place.{place-said};
+ghost use Rattle.lifecycle.specs.Slots.{no-slot, is-free, is-listed-as, holds-byte, published-slot};
 use crate::filedesc::Carousel;
 use crate::filedesc::FileDesc;
-use crate::filedesc::Rule;
+use crate::filedesc::Plan;
 use crate::filedesc::Target;
 use crate::filedesc::Time;
 use crate::parts::Part;
+use sizes::limits::OBJECT_SLOTS;
 use sizes::partition::Sizes;
+use sizes::place::Place;
 
 // A held object: how many hold it (the list, a session), and whether the list does.
 #[repr(C)]
@@ -19,27 +22,17 @@ pub struct Slot {
     pub file: FileDesc,
 }
 
-// Where something stands.
-pub enum Place {
-    At(usize),
-    Nothing,
-}
-
 // A slot with nothing in it: all zeros.
 pub fn no_slot() -> Slot
     ensures { λ r. ⌜ r ≡ no-slot ⌝ }
 {
     let part = Part { start: 0, size: 0 };
     let sizes = Sizes { e: 0, b: 0 };
-    let rule = Rule::new(0, Carousel::Never, Target::AtOnce, false);
-    let never = Time {
-        known: false,
-        at: 0,
-    };
+    let plan = Plan::new(0, Carousel::Never, Target::AtOnce, false);
     Slot {
         holders: 0,
         listed: false,
-        file: FileDesc::new(0, 0, part, sizes, rule, never),
+        file: FileDesc::new(0, 0, part, sizes, plan, Time::none()),
     }
 }
 
@@ -51,11 +44,11 @@ fn is_free_slot(s: Slot) -> bool
 }
 
 // The first free slot.
-pub fn free_slot(slots: [Slot; 32]) -> Place
+pub fn free_slot(slots: [Slot; OBJECT_SLOTS]) -> Place
     ensures { λ r. ⌜ place-said r ≡ place is-free slots ⌝ }
 {
     let mut i: usize = 0;
-    while i < 32 {
+    while i < OBJECT_SLOTS {
         if is_free_slot(slots[i]) {
             return Place::At(i);
         }
@@ -75,11 +68,11 @@ fn is_listed_slot(s: Slot, toi: u64) -> bool
 }
 
 // The slot of the listed object with this number.
-pub fn listed_slot(slots: [Slot; 32], toi: u64) -> Place
+pub fn listed_slot(slots: [Slot; OBJECT_SLOTS], toi: u64) -> Place
     ensures { λ r. ⌜ place-said r ≡ place (is-listed-as toi) slots ⌝ }
 {
     let mut i: usize = 0;
-    while i < 32 {
+    while i < OBJECT_SLOTS {
         if is_listed_slot(slots[i], toi) {
             return Place::At(i);
         }
@@ -99,11 +92,11 @@ fn has_byte_of(s: Slot, c: Part) -> bool
 }
 
 // Does a held object share a byte with the part?
-pub fn any_shares(slots: [Slot; 32], c: Part) -> bool
+pub fn any_shares(slots: [Slot; OBJECT_SLOTS], c: Part) -> bool
     ensures { λ r. ⌜ r ≡ any (holds-byte c) slots ⌝ }
 {
     let mut i: usize = 0;
-    while i < 32 {
+    while i < OBJECT_SLOTS {
         if has_byte_of(slots[i], c) {
             return true;
         }
@@ -124,12 +117,12 @@ fn published(mut s: Slot) -> Slot
 }
 
 // Every listed object is published.
-pub fn mark_published(slots: [Slot; 32]) -> [Slot; 32]
+pub fn mark_published(slots: [Slot; OBJECT_SLOTS]) -> [Slot; OBJECT_SLOTS]
     ensures { λ r. ⌜ r ≡ map published-slot slots ⌝ }
 {
     let mut out = slots;
     let mut k: usize = 0;
-    while k < 32 {
+    while k < OBJECT_SLOTS {
         out[k] = published(out[k]);
         k += 1;
     }

@@ -14,19 +14,17 @@ pub enum PacketRecord {
 }
 
 // What a record says of the packet that a run gave.
-pub fn record_of(answer: RunAnswer) -> PacketRecord
+pub fn answer_record(answer: RunAnswer) -> PacketRecord
     ensures { λ r. ⌜ record-said r ≡ over record-of (packet-in answer) ⌝ }
 {
     match answer {
-        RunAnswer::Packet(p) => PacketRecord::Fields(fields_of(p)),
+        RunAnswer::Packet(p) => PacketRecord::Fields(record_of(p)),
         RunAnswer::Nothing => PacketRecord::NoPacket,
-        RunAnswer::Sizes => PacketRecord::NoPacket,
-        RunAnswer::Part => PacketRecord::NoPacket,
-        RunAnswer::NoSession => PacketRecord::NoPacket,
+        RunAnswer::Refused(_) => PacketRecord::NoPacket,
     }
 }
 
-fn fields_of(p: Packet) -> Record
+fn record_of(p: Packet) -> Record
     ensures { λ r. ⌜ r ≡ record-of (packet-said p) ⌝ }
 {
     let s = p.symbol;

@@ -1,95 +1,56 @@
 -- Add on the desk: refused as the definition says, or the object stands last in the queue with its number; and the sender stays valid.
+use Rattle.sizes.specs.declared.refusal.Refusal.the-variants as Because
+use Rattle.sizes.specs.declared.refusal.Refusal.{Refusal}
 use mathlib.Core.Path.{_≡_, refl, sym, _∙_, ap, subst}
 use mathlib.Core.Bool.{Bool, true, false, not, true≢false}
 use mathlib.Core.Option.{Option, some}
 use mathlib.Core.List.{List, [], _∷_, _++_, map}
 use Prim.Native.Nat.{ℕ, _+_}
 use native.Mathlib.Omega.{arith}
-use lib.Dec.{eqb, ltb}
+use lib.Dec.{eqb}
 use borrow.Author.Tests.{eq-eqb}
-use Rattle.sizes.specs.Words.{if_then_else_, given, keep, any, has, place, one-if, times}
-use Rattle.sizes.specs.Limits.{toi-entries}
+use Rattle.sizes.specs.Words.{if_then_else_, given, keep, any, one-if, times}
 use Rattle.sizes.specs.Allocator as Alloc
 use Rattle.sizes.specs.declared.partition.Sizes.{Sizes}
 use Rattle.sizes.specs.declared.toiallocator.ToiAllocator.{ToiAllocator}
-use Rattle.sizes.specs.declared.toiallocator.Allocated.{Allocated}
-use Rattle.sizes.specs.declared.toiallocator.Changed.{Changed}
 use Rattle.sizes.proofs.Lists.{map-append, has-none}
 use Rattle.sizes.proofs.AllocatorViews.{held-split, loose-given, claimed-view}
+use Rattle.sizes.proofs.Tests.{if-on}
 use Rattle.lifecycle.specs.Lifecycle.{unborn}
-use Rattle.lifecycle.specs.Setup.{Setup, bad-blocks}
+use Rattle.lifecycle.specs.Setup.{Setup}
 use Rattle.lifecycle.specs.FileDesc.{time-of}
-use Rattle.lifecycle.specs.Slots.{slot-at, is-free}
+use Rattle.lifecycle.specs.Slots.{slot-at}
 use Rattle.lifecycle.specs.Announce.{state-of}
-use Rattle.lifecycle.specs.FdtCalls.{files, sends, own-of, bad-part-of, refusal, put-of, named-of, fresh-of, numbered-of, added-of}
+use Rattle.lifecycle.specs.FdtCalls.{files, sends, own-of, refusal, added-of}
 use Rattle.lifecycle.specs.FdtCalls.{new-slot}
-use Rattle.lifecycle.specs.FdtMeans.{ListAdds, Admits, refused, admits}
+use Rattle.lifecycle.proofs.FdtMeans.{ListAdds, Admits, refused, admits}
 use Rattle.lifecycle.specs.declared.fdt.Fdt.{Fdt}
 use Rattle.lifecycle.specs.declared.fdt.Added.{Added}
-use Rattle.lifecycle.specs.declared.fdt.Admission.{Admission}
 use Rattle.lifecycle.specs.declared.fdt.Admission.the-variants as AdmissionV
 use Rattle.lifecycle.specs.declared.fdt.Request.{Request}
 use Rattle.lifecycle.specs.declared.fdt.Named.{Named}
 use Rattle.lifecycle.specs.declared.fdt.Named.the-variants as NamedV
-use Rattle.lifecycle.proofs.FdtFacts.{maybe-on, if-on}
 use Rattle.lifecycle.proofs.FdtViews.{at-each}
+use Rattle.lifecycle.proofs.FdtKeeps.{ObjectsOnly, added-keeps}
 use Rattle.lifecycle.proofs.FdtAdds.{added-view}
 use Rattle.lifecycle.proofs.FdtSent.{added-sent}
-use Rattle.lifecycle.proofs.FileDescLaws.{plan-named}
+use Rattle.lifecycle.proofs.FileDescLaws.{plan-as-named}
 use Rattle.definition.specs.Desk as Def
 use Rattle.sender.specs.SessionCalls.{Holds, object-of}
 use Rattle.sender.specs.FdtSessionCalls.{FdtHolds, fdt-hand-of}
-use Rattle.sender.specs.SenderCalls.{working, desk-of, Agrees, Valid, Kept, add-answer, named-said, object-said, with-list, has-priority, request-of, admission-said, adding-of}
+use Rattle.sender.specs.SenderCalls.{working, desk-of, Agrees, ValidSender, Kept, add-answer, named-said, object-said, with-list, has-priority, request-of, adding-of}
 use Rattle.sender.specs.declared.sender.Sender.{Sender}
 use Rattle.sender.specs.declared.sender.Object.{Object}
 use Rattle.sender.specs.declared.sender.Adding.{Adding}
 use Rattle.sender.proofs.DeskCounts.{next-view}
-use Rattle.sender.proofs.DeskLists.{SentKept, sessions-same, list-valid, list-agrees}
+use Rattle.sender.proofs.DeskChanges.{sessions-same, SentKept, kept-stays, valid-list, agrees-list}
 use Rattle.sender.proofs.DeskRefusals.{own-view, add-refusal-view}
 
 -- ---- what an add leaves alone
 
-pub record Beside (f r : Fdt) : Type 0 where
-  pub settings : r .settings ≡ f .settings
-  pub complete : r .complete ≡ f .complete
-  pub announcer : r .announcer ≡ f .announcer
-  pub width : r .tois .width ≡ f .tois .width
-
-claimed-width : (t : ℕ) (a : ToiAllocator) → Alloc.claimed-of t a .allocator .width ≡ a .width
-unfolding Alloc.claimed-of Alloc.bound-at
-claimed-width t a = maybe-on (λ (c : Changed). c .allocator .width ≡ a .width) (place (Alloc.entry-is t true) (Alloc.noted a)) (λ e. refl) (λ i e. refl)
-
-given-width : (a : ToiAllocator) → Alloc.allocated-of false a .allocator .width ≡ a .width
-unfolding Alloc.allocated-of Alloc.moved-on Alloc.noting
-given-width a = if-on (λ (c : Allocated). c .allocator .width ≡ a .width) (ltb (a .entered) toi-entries) (λ e. refl) (λ e. refl)
-
-beside-same : (f : Fdt) → Beside f f
-beside-same f = record { settings = refl; complete = refl; announcer = refl; width = refl }
-
-beside-numbered : (f : Fdt) (q : Request) (z : Sizes) (named : Named) → Beside f (numbered-of f q z named .fdt)
-unfolding numbered-of named-of fresh-of put-of
-beside-numbered f q z (NamedV.Toi t) =
-    if-on (λ (r : Added). Beside f (r .fdt)) (has t (Alloc.loose (f .tois)))
-    (λ l. maybe-on (λ (r : Added). Beside f (r .fdt)) (place is-free (f .slots)) (λ e. beside-same f)
-    (λ k e. record { settings = refl; complete = refl; announcer = refl; width = claimed-width t (f .tois) }))
-    (λ l. beside-same f)
-beside-numbered f q z NamedV.Anew =
-    maybe-on (λ (r : Added). Beside f (r .fdt)) (place is-free (f .slots)) (λ e. beside-same f)
-    (λ k e. if-on (λ (r : Added). Beside f (r .fdt)) (ltb (f .tois .entered) toi-entries)
-    (λ l. record { settings = refl; complete = refl; announcer = refl; width = given-width (f .tois) })
-    (λ l. beside-same f))
-
-pub added-beside : (f : Fdt) (q : Request) (named : Named) → Beside f (added-of f q named .fdt)
-unfolding added-of
-added-beside f q named =
-    let z = own-of (q .own) (f .settings .sizes) in
-    if-on (λ (r : Added). Beside f (r .fdt)) (f .complete) (λ e. beside-same f) (λ e.
-    if-on (λ (r : Added). Beside f (r .fdt)) (bad-blocks z (q .part .size)) (λ e. beside-same f) (λ e.
-    if-on (λ (r : Added). Beside f (r .fdt)) (bad-part-of f (q .part)) (λ e. beside-same f) (λ e. beside-numbered f q z named)))
-
 -- a slot that was free was not in transfer, so what is in transfer stays as it was
 pub added-kept : (f : Fdt) (q : Request) (z : Sizes) (named : Named) (r : Added) → ListAdds f q z named r → SentKept f (r .fdt)
-added-kept f q z named r (refused a n e) = subst (λ (x : Added). SentKept f (x .fdt)) (sym e) (λ j s. refl)
+added-kept f q z named r (refused a e) = subst (λ (x : Added). SentKept f (x .fdt)) (sym e) (λ j s. refl)
 added-kept f q z named r (admits k t h) = at-each (λ j. sends (slot-at (f .slots) j) ≡ true → slot-at (r .fdt .slots) j ≡ slot-at (f .slots) j) k
     (λ s. absurd (true≢false (sym s ∙ ap sends (h .free .blank))))
     (λ j e s. h .view .same j e)
@@ -106,7 +67,7 @@ made-view u s a o t =
       priority = o .priority;
       part = o .part;
       sizes = sym (own-view u (s .fdt .settings .sizes) (a .sizes) o) i;
-      plan = plan-named (o .most) (o .carousel) (o .target) (o .«stop_at_once») i;
+      plan = plan-as-named (o .most) (o .carousel) (o .target) (o .«stop_at_once») i;
       life = unborn false (time-of (o .start));
     }
 
@@ -116,12 +77,12 @@ unloosed-last t [] h = rw (eq-eqb t t refl)
 unloosed-last t (a ∷ l) h = (elim (eqb a t) as (λ b. one-if b + times t l ≡ 0 → (if not b then a ∷ keep (λ u. not (eqb u t)) (l ++ (t ∷ [])) else keep (λ u. not (eqb u t)) (l ++ (t ∷ []))) ≡ a ∷ l)
     [ true ↦ λ z. absurd (omega arith) | false ↦ λ z. ap (λ r. a ∷ r) (unloosed-last t l (omega arith)) ]) h
 
-module _ (u : Setup) (o : Object) (s : Sender) (agrees : Agrees u s) (v : Valid s) where
+module _ (u : Setup) (o : Object) (s : Sender) (agrees : Agrees u s) (v : ValidSender s) where
   abbrev own : Sizes
   own = own-of (o .own) (s .fdt .settings .sizes)
 
   -- with the new number and the loose ones that the desk has, the new desk is the definition's
-  desk-more : (named : Named) (k t : ℕ) (r : Added) → Beside (s .fdt) (r .fdt) → Admits (s .fdt) (request-of o) own named k t r → (d : Def.Desk)
+  desk-more : (named : Named) (k t : ℕ) (r : Added) → ObjectsOnly (s .fdt) (r .fdt) → Admits (s .fdt) (request-of o) own named k t r → (d : Def.Desk)
       → d .complete ≡ s .fdt .complete → d .next ≡ r .fdt .tois .next → Def.unloosed t (d .loose) ≡ Alloc.loose (r .fdt .tois)
       → d .queue ≡ desk-of s .queue → d .sessions ≡ desk-of s .sessions → d .fdt ≡ desk-of s .fdt
       → Def.admitted u t (object-said o) d ≡ desk-of (with-list s (r .fdt))
@@ -136,12 +97,12 @@ module _ (u : Setup) (o : Object) (s : Sender) (agrees : Agrees u s) (v : Valid 
         next = next i;
         loose = loose i;
         queue = (ap (λ l. l ++ (Def.made u t (object-said o) ∷ [])) queue ∙ sym more) i;
-        sessions = (sessions ∙ sym (sessions-same s v (r .fdt) kept)) i;
+        sessions = (sessions ∙ sym (sessions-same s v (r .fdt .slots) kept)) i;
         fdt = (fdt ∙ sym (ap (λ a. record { state = state-of a; hand = fdt-hand-of (s .«fdt_session») }) (b .announcer))) i;
       }
 
   -- the desk after an add that is not refused
-  desk-added : (named : Named) (k t : ℕ) (r : Added) → Beside (s .fdt) (r .fdt) → Admits (s .fdt) (request-of o) own named k t r
+  desk-added : (named : Named) (k t : ℕ) (r : Added) → ObjectsOnly (s .fdt) (r .fdt) → Admits (s .fdt) (request-of o) own named k t r
       → _≡_ {A = Def.Result}
       (Def.Answer.number (Def.toi-for (desk-of s) (named-said named)), Def.admitted u (Def.toi-for (desk-of s) (named-said named)) (object-said o) (if given (named-said named) then desk-of s else Def.reserved u (desk-of s)))
       (Def.Answer.number t, desk-of (with-list s (r .fdt)))
@@ -169,35 +130,26 @@ module _ (u : Setup) (o : Object) (s : Sender) (agrees : Agrees u s) (v : Valid 
 
 -- ---- the call
 
--- a refusal says its number
-refused-said : (a : Admission) → ((t : ℕ) → a ≡ AdmissionV.Toi t → ⊥) → (d : Def.Desk) (x : Def.Result) → Def.unless (refusal a) d x ≡ (add-answer (admission-said a), d)
-refused-said (AdmissionV.Toi t) n d x = absurd (n t refl)
-refused-said AdmissionV.Complete n d x = refl
-refused-said AdmissionV.Sizes n d x = refl
-refused-said AdmissionV.Part n d x = refl
-refused-said AdmissionV.Unknown n d x = refl
-refused-said AdmissionV.Full n d x = refl
-
-module _ (o : Object) (named : Named) (s : Sender) (v : Valid s) where
+module _ (o : Object) (named : Named) (s : Sender) (v : ValidSender s) where
   abbrev call : Def.Call
   call = Def.Call.add (named-said named) (object-said o)
 
   -- the refusal, or what an admitted add makes of the desk
-  abbrev comes : Setup → Option ℕ → Def.Result
+  abbrev comes : Setup → Option Refusal → Def.Result
   comes u x = Def.unless x (desk-of s)
       (Def.Answer.number (Def.toi-for (desk-of s) (named-said named)), Def.admitted u (Def.toi-for (desk-of s) (named-said named)) (object-said o) (if given (named-said named) then desk-of s else Def.reserved u (desk-of s)))
 
   step-is : (u : Setup) → Agrees u s → {b : Bool} → any (has-priority (o .priority)) (working s) ≡ b
-      → Def.step u (desk-of s) call ≡ comes u (if not b then some 2 else refusal (added-of (s .fdt) (request-of o) named .answer))
+      → Def.step u (desk-of s) call ≡ comes u (if not b then some Because.NoPriority else refusal (added-of (s .fdt) (request-of o) named .answer))
   unfolding Def.step
-  step-is u a e = ap (comes u) (add-refusal-view u s a v o named ∙ ap (λ b. if not b then some 2 else refusal (added-of (s .fdt) (request-of o) named .answer)) e)
+  step-is u a e = ap (comes u) (add-refusal-view u s a v o named ∙ ap (λ b. if not b then some Because.NoPriority else refusal (added-of (s .fdt) (request-of o) named .answer)) e)
 
   -- what the list makes of it is what the definition says
-  list-means : (u : Setup) → Agrees u s → (r : Added) → ListAdds (s .fdt) (request-of o) (own-of (o .own) (s .fdt .settings .sizes)) named r → Beside (s .fdt) (r .fdt)
-      → comes u (refusal (r .answer)) ≡ (add-answer (admission-said (r .answer)), desk-of (with-list s (r .fdt)))
-  list-means u a r (refused x n e) b = subst (λ (r : Added). comes u (refusal (r .answer)) ≡ (add-answer (admission-said (r .answer)), desk-of (with-list s (r .fdt)))) (sym e) (refused-said x n (desk-of s) _)
+  list-means : (u : Setup) → Agrees u s → (r : Added) → ListAdds (s .fdt) (request-of o) (own-of (o .own) (s .fdt .settings .sizes)) named r → ObjectsOnly (s .fdt) (r .fdt)
+      → comes u (refusal (r .answer)) ≡ (add-answer (r .answer), desk-of (with-list s (r .fdt)))
+  list-means u a r (refused x e) b = subst (λ (r : Added). comes u (refusal (r .answer)) ≡ (add-answer (r .answer), desk-of (with-list s (r .fdt)))) (sym e) refl
   list-means u a r (admits k t h) b =
-      ap (λ x. comes u (refusal x)) (h .answer) ∙ desk-added u o s a v named k t r b h ∙ sym (ap (λ x. (add-answer (admission-said x), desk-of (with-list s (r .fdt)))) (h .answer))
+      ap (λ x. comes u (refusal x)) (h .answer) ∙ desk-added u o s a v named k t r b h ∙ sym (ap (λ x. (add-answer x, desk-of (with-list s (r .fdt)))) (h .answer))
 
   abbrev Good : Adding → Type 0
   Good r = Holds (r .sender .fdt) → FdtHolds (r .sender .fdt) → Kept s call (add-answer (r .answer)) (r .sender)
@@ -208,15 +160,15 @@ module _ (o : Object) (named : Named) (s : Sender) (v : Valid s) where
       let f = s .fdt in
       let r = added-of f (request-of o) named in
       let w = added-view f (v .holds .valid) (request-of o) named in
-      let b = added-beside f (request-of o) named in
+      let b = added-keeps f (request-of o) named in
       if-on Good (any (has-priority (o .priority)) (working s))
       (λ e h g. record {
         means = λ u a. step-is u a e ∙ list-means u a r w b;
-        agrees = list-agrees s (r .fdt) (b .settings) (b .width);
-        valid = list-valid s v (r .fdt) (added-kept f (request-of o) (own-of (o .own) (f .settings .sizes)) named r w) h g (b .settings) (b .announcer) (added-sent f (v .holds .valid) (request-of o) named);
+        agrees = λ u a. agrees-list u s (r .fdt) (b .settings) (b .width) a;
+        valid = valid-list s (r .fdt) v (kept-stays f (r .fdt) b (added-sent f (v .holds .valid) (request-of o) named) (added-kept f (request-of o) (own-of (o .own) (f .settings .sizes)) named r w)) h g;
       })
       (λ e h g. record { means = λ u a. step-is u a e; agrees = λ u a. a; valid = v })
 
-pub add-kept : {s : Sender} (o : Object) (named : Named) → Valid s → Holds (adding-of o named s .sender .fdt) → FdtHolds (adding-of o named s .sender .fdt)
+pub add-kept : {s : Sender} (o : Object) (named : Named) → ValidSender s → Holds (adding-of o named s .sender .fdt) → FdtHolds (adding-of o named s .sender .fdt)
     → Kept s (Def.Call.add (named-said named) (object-said o)) (add-answer (adding-of o named s .answer)) (adding-of o named s .sender)
 add-kept {s} o named v h g = add-kept-of o named s v h g

@@ -1,4 +1,4 @@
--- A change of the list under the sender: what its sessions have in hand after it, that Valid is kept, and the object with a number.
+-- A change of the list under the sender: what its sessions have in hand after it, that the sender stays valid, and the object with a number.
 use mathlib.Core.Path.{_≡_, refl, sym, _∙_, ap, subst}
 use mathlib.Core.Bool.{Bool, true, false}
 use mathlib.Core.Option.{Option, none, some}
@@ -13,19 +13,22 @@ use Rattle.sizes.proofs.Tables.{map-at, find-map}
 use Rattle.lifecycle.specs.Setup.{Setup}
 use Rattle.lifecycle.specs.Slots.{slot-at}
 use Rattle.lifecycle.specs.Announce.{state-of}
-use Rattle.lifecycle.specs.FdtCalls.{files, sends, listed-place}
-use Rattle.lifecycle.specs.FdtMeans.{file-at, listed-files, SentSame}
+use Rattle.lifecycle.specs.FdtCalls.{file-at, files, sends, listed-place}
+use Rattle.lifecycle.proofs.FdtMeans.{listed-files, SentSame}
 use Rattle.lifecycle.specs.declared.filedesc.FileDesc.{FileDesc}
 use Rattle.lifecycle.specs.declared.slots.Slot.{Slot}
+use Rattle.lifecycle.specs.declared.announce.Announcer.{Announcer}
 use Rattle.lifecycle.specs.declared.fdt.Fdt.{Fdt}
+use Rattle.lifecycle.proofs.FdtKeeps.{ObjectsOnly}
 use Rattle.lifecycle.proofs.FdtSent.{same-counts}
 use Rattle.lifecycle.proofs.FdtByNumber.{listed-given}
 use Rattle.definition.specs.Session.{Object, Hand, Session}
 use Rattle.definition.specs.Desk as Def
 use Rattle.sender.specs.SessionCalls.{object-of, hand-of, session-of, idle-of, Holds}
 use Rattle.sender.specs.FdtSessionCalls.{FdtHolds}
-use Rattle.sender.specs.SessionMeans.{Stands, SameSide}
-use Rattle.sender.specs.SenderCalls.{working, desk-of, Agrees, slot-in, Valid, with-list}
+use Rattle.sender.specs.SessionMeans.{Stands}
+use Rattle.sender.proofs.SessionFacts.{SameSide}
+use Rattle.sender.specs.SenderCalls.{working, desk-of, Agrees, slot-in, ValidSender, with-list}
 use Rattle.sender.specs.declared.sendersession.SenderSession.{SenderSession}
 use Rattle.sender.specs.declared.sender.Sender.{Sender}
 
@@ -37,13 +40,13 @@ map-through F G [] = refl
 map-through F G (a ∷ l) = ap (λ r. F (G a) ∷ r) (map-through F G l)
 
 -- each session in use has an object in hand, or nothing
-pub working-stands : (s : Sender) → Valid s → (i : ℕ) (x : SenderSession) → at (working s) i ≡ some x → Stands (s .fdt) (s .window) x
+pub working-stands : (s : Sender) → ValidSender s → (i : ℕ) (x : SenderSession) → at (working s) i ≡ some x → Stands (s .fdt) (s .window) x
 working-stands s v i x e =
     let h = at-take (s .sessions) (s .count) i x e in
     subst (Stands (s .fdt) (s .window)) (sym (getD-take (s .count) (s .sessions) i (idle-of 0) h) ∙ at-get (idle-of 0) (working s) i x e .0) (v .sessions i h)
 
 -- the slots are t from now on: where each slot in transfer means g of what it meant, each hand is g of what it was
-pub sessions-moved : (s : Sender) → Valid s → (t : List Slot) (g : Hand → Hand)
+pub sessions-moved : (s : Sender) → ValidSender s → (t : List Slot) (g : Hand → Hand)
     → ((j : ℕ) (x : SenderSession) → sends (slot-at (s .fdt .slots) j) ≡ true → hand-of (slot-at t j) x ≡ g (hand-of (slot-at (s .fdt .slots) j) x))
     → map (session-of t) (working s) ≡ map (Def.in-hand g) (map (session-of (s .fdt .slots)) (working s))
 unfolding Def.in-hand
@@ -70,12 +73,12 @@ in-hand-same (x ∷ l) = λ i. record { priority = x .priority; hand = whole (x 
     whole (some y) = refl
 
 -- where each slot in transfer is as it was, so is what sessions have in hand
-pub sessions-same : (s : Sender) → Valid s → (t : List Slot) → ((j : ℕ) → sends (slot-at (s .fdt .slots) j) ≡ true → slot-at t j ≡ slot-at (s .fdt .slots) j)
+pub sessions-same : (s : Sender) → ValidSender s → (t : List Slot) → ((j : ℕ) → sends (slot-at (s .fdt .slots) j) ≡ true → slot-at t j ≡ slot-at (s .fdt .slots) j)
     → map (session-of t) (working s) ≡ map (session-of (s .fdt .slots)) (working s)
 sessions-same s v t h =
     sessions-moved s v t (λ y. y) (λ j x e. ap (λ (y : Slot). hand-of y x) (h j e)) ∙ in-hand-same (map (session-of (s .fdt .slots)) (working s))
 
--- ---- Valid, of a sender with another list
+-- ---- a sender with another list is valid
 
 -- what a call leaves as it was: the settings, the part and sizes of each object in transfer, whether the current FDT is being transferred
 pub record Stays (f r : Fdt) : Type 0 where
@@ -84,6 +87,19 @@ pub record Stays (f r : Fdt) : Type 0 where
   pub part : (j : ℕ) → sends (slot-at (f .slots) j) ≡ true → file-at (r .slots) j .part ≡ file-at (f .slots) j .part
   pub sizes : (j : ℕ) → sends (slot-at (f .slots) j) ≡ true → file-at (r .slots) j .sizes ≡ file-at (f .slots) j .sizes
   pub current : r .announcer .current .life .transferring ≡ f .announcer .current .life .transferring
+
+-- what is in transfer stays as it was
+abbrev pub SentKept : Fdt → Fdt → Type 0
+SentKept f r = (j : ℕ) → sends (slot-at (f .slots) j) ≡ true → slot-at (r .slots) j ≡ slot-at (f .slots) j
+
+pub kept-stays : (f r : Fdt) → ObjectsOnly f r → SentSame f r → SentKept f r → Stays f r
+kept-stays f r o sent kept = record {
+  settings = o .settings;
+  sent-same = sent;
+  part = λ j e. ap (λ (y : Slot). y .file .part) (kept j e);
+  sizes = λ j e. ap (λ (y : Slot). y .file .sizes) (kept j e);
+  current = ap (λ (a : Announcer). a .current .life .transferring) (o .announcer);
+}
 
 -- what a session has in hand may stay there
 pub stands-list : (f r : Fdt) (w : ℕ) (x : SenderSession) → Stays f r → Stands f w x → Stands r w x
@@ -101,7 +117,7 @@ stands-list f r w x k h = record {
   idle = h .idle;
 }
 
-pub valid-list : (s : Sender) (f : Fdt) → Valid s → Stays (s .fdt) f → Holds f → FdtHolds f → Valid (with-list s f)
+pub valid-list : (s : Sender) (f : Fdt) → ValidSender s → Stays (s .fdt) f → Holds f → FdtHolds f → ValidSender (with-list s f)
 valid-list s f v k a b = record {
   holds = a;
   fdt-holds = b;
@@ -184,7 +200,7 @@ given-over f none = refl
 given-over f (some a) = refl
 
 -- is one listed with the number
-pub listed-answer : (s : Sender) → Valid s → (t : ℕ) → given (Def.listed-as (desk-of s) t) ≡ given (listed-place t (s .fdt))
+pub listed-answer : (s : Sender) → ValidSender s → (t : ℕ) → given (Def.listed-as (desk-of s) t) ≡ given (listed-place t (s .fdt))
 listed-answer s v t =
     let l = collect slot-in (working s) in
     ap given (listed-desk s t)

@@ -14,23 +14,21 @@ use Rattle.sizes.specs.Toi.{next-toi}
 use Rattle.sizes.specs.Allocator as Alloc
 use Rattle.sizes.proofs.Tests.{Tested, pass, fail, tested}
 use Rattle.sizes.proofs.Lists.{map-append, times-append}
-use Rattle.sizes.proofs.Tables.{map-in, same-length, same-has, inside, other, leaves, counts-length}
+use Rattle.sizes.proofs.Tables.{one-true, map-in, same-length, same-has, inside, other, leaves, counts-length}
 use Rattle.sizes.proofs.Collects.{adds, at-inside, collect-set}
 use Rattle.sizes.proofs.ToiLaws.{next-same}
 use Rattle.sizes.proofs.AllocatorLaws.{held-length, held-noting}
-use Rattle.sizes.proofs.AllocatorViews.{held-split}
+use Rattle.sizes.proofs.AllocatorViews.{held-split, given-next}
 use Rattle.lifecycle.specs.Setup.{Setup}
 use Rattle.lifecycle.specs.Slots.{no-slot, slot-at, is-free}
-use Rattle.lifecycle.specs.FdtCalls.{waiting, sends, used}
-use Rattle.lifecycle.specs.FdtMeans.{file-at}
+use Rattle.lifecycle.specs.FdtCalls.{file-at, waiting, sends, used}
 use Rattle.lifecycle.specs.declared.slots.Slot.{Slot}
-use Rattle.lifecycle.proofs.FdtFacts.{one-true}
 use Rattle.lifecycle.proofs.FdtViews.{differs, map-two}
 use Rattle.lifecycle.proofs.FdtSearches.{free-view}
 use Rattle.definition.specs.Session.{Object, Hand}
 use Rattle.definition.specs.Desk.{in-hands, objects, numbers, full}
 use Rattle.sender.specs.SessionCalls.{object-of, hand-of, session-of}
-use Rattle.sender.specs.SenderCalls.{working, desk-of, Agrees, slot-in, Valid}
+use Rattle.sender.specs.SenderCalls.{working, desk-of, Agrees, slot-in, ValidSender}
 use Rattle.sender.specs.declared.sendersession.SenderSession.{SenderSession}
 use Rattle.sender.specs.declared.sender.Sender.{Sender}
 
@@ -94,7 +92,7 @@ objects-view s =
     let a : map object-of (map (file-at (s .fdt .slots)) (waiting (s .fdt))) ≡ map g (waiting (s .fdt)) = sym (map-two g (file-at (s .fdt .slots)) object-of (waiting (s .fdt)) (λ k u. refl)) in
     (λ i. a i ++ hands-view (s .fdt .slots) (working s) i) ∙ sym (map-append g (waiting (s .fdt)) (collect slot-in (working s)))
 
-module _ (s : Sender) (v : Valid s) where
+module _ (s : Sender) (v : ValidSender s) where
   -- each used slot has one owner
   pub owners-used : Counts no-slot used (s .fdt .slots) (owners s)
   owners-used k =
@@ -144,7 +142,6 @@ module _ (s : Sender) (v : Valid s) where
   -- the next number, once the stored one is noted
   pub next-view : (u : Setup) → Agrees u s → (flag : Bool) → s .fdt .tois .entered < toi-entries
       → next-toi (u .width) (s .fdt .tois .next ∷ numbers (desk-of s)) (s .fdt .tois .next) ≡ Alloc.moved-on (Alloc.noting flag (s .fdt .tois)) .next
-  unfolding Alloc.moved-on Alloc.noting
   next-view u w flag h =
       let a = s .fdt .tois in
       let same : (n : ℕ) → times n (a .next ∷ numbers (desk-of s)) ≡ times n (Alloc.held (Alloc.noting flag a)) = λ n. (
@@ -154,3 +151,4 @@ module _ (s : Sender) (v : Valid s) where
       ap (λ k. next-toi k (a .next ∷ numbers (desk-of s)) (a .next)) (w .width)
       ∙ next-same (a .width) (a .next ∷ numbers (desk-of s)) (Alloc.held (Alloc.noting flag a)) (a .next)
       (same-length (a .next ∷ numbers (desk-of s)) (Alloc.held (Alloc.noting flag a)) same) (λ m. same-has m (a .next ∷ numbers (desk-of s)) (Alloc.held (Alloc.noting flag a)) (same m))
+      ∙ sym (given-next flag a)

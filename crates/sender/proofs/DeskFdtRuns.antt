@@ -1,54 +1,50 @@
 -- A run of the FDT session under the sender: what is in hand is what is being transferred, and a draft that is taken marks every listed object; its refusals.
+use Rattle.sizes.specs.declared.refusal.Refusal.{Refusal}
+use Rattle.sizes.specs.declared.refusal.Refusal.the-variants as Because
 use mathlib.Core.Path.{_≡_, refl, sym, _∙_, ap, subst}
-use mathlib.Core.Bool.{Bool, true, false, _&&_, _||_}
+use mathlib.Core.Bool.{Bool, true, false, _||_}
 use mathlib.Core.Option.{Option, none, some}
 use mathlib.Core.List.{[], _∷_}
 use Prim.Native.Nat.{ℕ}
-use native.Mathlib.Omega.{arith}
-use lib.Dec.{eqb}
 use lib.ListN.{getD}
-use borrow.Author.Tests.{eqb-false}
-use Rattle.sizes.specs.Words.{if_then_else_, maybe, given, collect, first-of}
+use Rattle.sizes.specs.Words.{if_then_else_, maybe, collect, first-of}
+use Rattle.sizes.proofs.Tests.{if-on}
 use Rattle.lifecycle.specs.Lifecycle as Life
 use Rattle.lifecycle.specs.Setup.{Setup, bad-blocks}
 use Rattle.lifecycle.specs.Fdt.{bad-fdt-part}
-use Rattle.lifecycle.specs.FileDesc.{plan-of, life-of, started-life, done-life}
-use Rattle.lifecycle.specs.Announce as Ann
-use Rattle.lifecycle.specs.Announce.{state-of, draft-given, FdtValid, needs-new-of, queued-of, republished-of, front-of, start-of, transferring-of, next-of, bad-fdt-of}
-use Rattle.lifecycle.specs.FdtCalls.{with-slots, announced, with-announcer, real-draft, draft-test-of, next-fdt-of, fdt-done-of}
-use Rattle.lifecycle.specs.FdtCalls.{Valid as ListValid}
+use Rattle.lifecycle.specs.Announce.{state-of, draft-given, bad-fdt-of}
+use Rattle.lifecycle.specs.FdtCalls.{with-slots, with-published, with-announcer, real-draft, draft-test-of, next-fdt-of, fdt-done-of}
+use Rattle.lifecycle.specs.FdtCalls.{ValidFdt}
 use Rattle.lifecycle.specs.declared.parts.Part.{Part}
-use Rattle.lifecycle.specs.declared.filedesc.Rule.{Rule}
-use Rattle.lifecycle.specs.declared.announce.Instance.{Instance}
 use Rattle.lifecycle.specs.declared.announce.Announcer.{Announcer}
-use Rattle.lifecycle.specs.declared.announce.NextFdt.{NextFdt}
 use Rattle.lifecycle.specs.declared.announce.Draft.{Draft}
-use Rattle.lifecycle.specs.declared.announce.Draft.the-variants.{Given, Missing}
 use Rattle.lifecycle.specs.declared.fdt.Fdt.{Fdt}
 use Rattle.lifecycle.specs.declared.fdt.Settings.{Settings}
-use Rattle.lifecycle.proofs.FdtFacts.{if-on, maybe-on}
+use Rattle.lifecycle.proofs.FdtKeeps.{real-given, draft-test-as}
+use Rattle.lifecycle.proofs.AnnounceSends.{current-sends, next-fdt-sends, fdt-done-sends}
 use Rattle.lifecycle.proofs.FdtSent.{same-counts}
-use Rattle.lifecycle.proofs.AnnounceLaws.{valid-republished, bad-said}
+use Rattle.lifecycle.proofs.AnnounceLaws.{bad-said}
 use Rattle.lifecycle.proofs.PublishLaws.{valid-next-fdt, valid-fdt-done}
-use Rattle.definition.specs.FdtSession.{FdtTurn, fdt-run}
+use Rattle.definition.specs.FdtSession.{FdtTurn as DefTurn, fdt-run}
 use Rattle.definition.specs.Desk as Def
 use Rattle.sender.specs.EncoderCalls.{read-of}
 use Rattle.sender.specs.SessionCalls.{idle-of, Holds}
 use Rattle.sender.specs.FdtSessionCalls.{FdtHolds, FdtTries, left-of, fdt-begun-of, fdt-sent-by, fdt-sent-of, fdt-attempted-of, fdt-again-by, fdt-ran-of}
-use Rattle.sender.specs.SessionMeans.{Stands, FdtStands, SetFor, fdt-of, fdt-packet-said, SameObjects, marked-slots, FdtTurns}
-use Rattle.sender.specs.SenderCalls.{working, slot-in, desk-of, Agrees, Valid, Kept, fdt-answer, answer-of, fdt-running-by, fdt-running-of}
+use Rattle.sender.specs.SessionMeans.{Stands, fdt-of}
+use Rattle.sender.specs.SenderCalls.{working, slot-in, desk-of, Agrees, ValidSender, Kept, fdt-answer, answer-of, fdt-running-by, fdt-running-of}
 use Rattle.sender.specs.declared.blockencoder.Emitted.{Emitted}
 use Rattle.sender.specs.declared.blockencoder.Emitted.the-variants as EmittedV
 use Rattle.sender.specs.declared.sendersession.SenderSession.{SenderSession}
-use Rattle.sender.specs.declared.sendersession.Served.{Served}
-use Rattle.sender.specs.declared.sendersession.Served.the-variants.{Idle, Sent, Over}
+use Rattle.sender.specs.declared.sendersession.Outcome.{Outcome}
+use Rattle.sender.specs.declared.sendersession.Outcome.the-variants.{Idle, Sent, Over}
 use Rattle.sender.specs.declared.fdtsession.FdtSession.{FdtSession}
-use Rattle.sender.specs.declared.fdtsession.FdtRan.{FdtRan}
+use Rattle.sender.specs.declared.fdtsession.FdtTurn.{FdtTurn}
 use Rattle.sender.specs.declared.sender.Sender.{Sender}
 use Rattle.sender.specs.declared.sender.RunAnswer.the-variants as RunV
 use Rattle.sender.proofs.SessionLaws.{holds-next-fdt, holds-fdt-done}
 use Rattle.sender.proofs.FdtSessionLaws.{draft-looked}
-use Rattle.sender.proofs.FdtSessionFacts.{stands-tries, next-starts, next-announcer}
+use Rattle.lifecycle.proofs.AnnounceKeep.{SameObjects, marked-slots}
+use Rattle.sender.proofs.FdtSessionFacts.{FdtStands, SetFor, stands-tries, fdt-packet-said, FdtTurns}
 use Rattle.sender.proofs.FdtSessionViews.{fdt-ran-means}
 use Rattle.sender.proofs.DeskChanges.{Stays, stands-list, agrees-list}
 use Rattle.sender.proofs.DeskPublish.{announced-desk, announced-stays}
@@ -59,7 +55,7 @@ use Rattle.sender.proofs.DeskPublish.{announced-desk, announced-stays}
 module _ (w now : ℕ) (draft : Draft) (P : Fdt → Bool → Type 0)
     (next : (d : Draft) (f : Fdt) → P f false → P (next-fdt-of now d f .fdt) (next-fdt-of now d f .starts))
     (done : (f : Fdt) → P f true → P (fdt-done-of now f) false) where
-  abbrev After : FdtRan → Type 0
+  abbrev After : FdtTurn → Type 0
   After r = P (r .fdt) (r .session .busy)
 
   sent-on : (taken : Bool) (f : Fdt) (x : FdtSession) → P f (x .busy) → After (fdt-sent-of now taken f x)
@@ -84,7 +80,7 @@ module _ (w now : ℕ) (draft : Draft) (P : Fdt → Bool → Type 0)
   unfolding fdt-ran-of
   ran-on f x p = let a = fdt-attempted-of w now draft false f x in again a (attempted-on false f x p) (a .answer)
     where
-      again : (a : FdtRan) → After a → (s : Served) → After (fdt-again-by w now draft a s)
+      again : (a : FdtTurn) → After a → (s : Outcome) → After (fdt-again-by w now draft a s)
       again a q Over = attempted-on (a .taken) (a .fdt) (a .session) q
       again a q Idle = q
       again a q (Sent s) = q
@@ -95,75 +91,29 @@ ran-holds w now draft = ran-on w now draft (λ f b. Holds f) (λ d f h. holds-ne
 
 -- ---- the current FDT is being transferred exactly while one is in hand
 
--- is the current one being transferred
-abbrev sending : Announcer → Bool
-sending a = a .current .life .transferring
-
-module _ (a : Announcer) (v : FdtValid a) where
-  -- none that waits is
-  front-sending : sending a ≡ false → sending (front-of a) ≡ false
-  unfolding front-of
-  front-sending e = if-on (λ (b : Announcer). sending b ≡ false) (eqb (a .waiting) 0) (λ z. e) (λ z. v .idle 0 (let n = eqb-false (a .waiting) 0 z in omega (arith, n)))
-
-  done-sending : (now : ℕ) → sending (Ann.done-of now a) ≡ false
-  unfolding Ann.done-of done-life
-  done-sending now = if-on (λ (b : Announcer). sending b ≡ false) (a .«has_current») (λ e. refl) (λ e. ap (λ (i : Instance). i .life .transferring) (v .blank e))
-
-republished-sending : (validity now : ℕ) (draft : Draft) (a : Announcer) → sending (republished-of validity now draft a) ≡ sending a
-unfolding republished-of queued-of
-republished-sending validity now draft a =
-    if-on (λ (b : Announcer). sending b ≡ sending a) (needs-new-of validity now a) (λ e. maybe-on (λ (b : Announcer). sending b ≡ sending a) (draft-given draft) (λ q. refl) (λ c q. refl)) (λ e. refl)
-
--- after the question for the next one, the current one is being transferred exactly where it starts
-abbrev Starts : NextFdt → Type 0
-Starts n = sending (n .announcer) ≡ n .starts
-
-start-sending : (r : Rule) (now : ℕ) (taken : Bool) (a : Announcer) → sending a ≡ false → Starts (start-of r now taken a)
-unfolding start-of started-life
-start-sending r now taken a e = if-on Starts (a .«has_current» && Life.may-start (plan-of r) now (life-of (a .current .life))) (λ c. refl) (λ c. e)
-
-next-sending : (r : Rule) (validity now : ℕ) (draft : Draft) (a : Announcer) → FdtValid a → sending a ≡ false → Starts (next-of r validity now draft a)
-unfolding next-of
-next-sending r validity now draft a v e = if-on Starts (transferring-of a) (λ q. e) (λ q.
-    let b = republished-of validity now draft a in
-    start-sending r now (needs-new-of validity now a && given (draft-given draft)) (front-of b)
-    (front-sending b (valid-republished a v validity now draft) (republished-sending validity now draft a ∙ e)))
-
--- the same of the list
-module _ (now : ℕ) (f : Fdt) (v : ListValid f) where
-  list-next : (draft : Draft) → sending (f .announcer) ≡ false → sending (next-fdt-of now draft f .fdt .announcer) ≡ next-fdt-of now draft f .starts
-  list-next draft e =
-      ap sending (next-announcer now draft f)
-      ∙ next-sending (Ann.fdt-rule (f .settings .«from_start») (f .settings .interval)) (f .settings .validity) now draft (f .announcer) (v .fdts) e
-      ∙ sym (next-starts now draft f)
-
-  list-done : sending (fdt-done-of now f .announcer) ≡ false
-  unfolding fdt-done-of
-  list-done = done-sending (f .announcer) (v .fdts) now
-
 -- so it is before and after each step of a run
 record Matched (f : Fdt) (busy : Bool) : Type 0 where
-  valid : ListValid f
-  matched : sending (f .announcer) ≡ busy
+  valid : ValidFdt f
+  matched : current-sends (f .announcer) ≡ busy
 
-pub ran-matched : (w now : ℕ) (draft : Draft) (f : Fdt) (x : FdtSession) → ListValid f → f .announcer .current .life .transferring ≡ x .busy
+pub ran-matched : (w now : ℕ) (draft : Draft) (f : Fdt) (x : FdtSession) → ValidFdt f → f .announcer .current .life .transferring ≡ x .busy
     → fdt-ran-of w now draft f x .fdt .announcer .current .life .transferring ≡ fdt-ran-of w now draft f x .session .busy
 ran-matched w now draft f x v e = ran-on w now draft Matched
-    (λ d f m. record { valid = valid-next-fdt now d f (m .valid); matched = list-next now f (m .valid) d (m .matched) })
-    (λ f m. record { valid = valid-fdt-done now f (m .valid); matched = list-done now f (m .valid) })
+    (λ d f m. record { valid = valid-next-fdt now d f (m .valid); matched = next-fdt-sends now f (m .valid) d (m .matched) })
+    (λ f m. record { valid = valid-fdt-done now f (m .valid); matched = fdt-done-sends now f (m .valid) })
     f x (record { valid = v; matched = e }) .matched
 
 -- ---- the sender with another FDT side
 
 -- the list, after a draft was taken or not
 abbrev sided : Fdt → Bool → Announcer → Fdt
-sided f taken a = if taken then announced f a else with-announcer f a
+sided f taken a = if taken then with-published f a else with-announcer f a
 
 -- the sender with another list, and another FDT session
 abbrev onward : Sender → Fdt → FdtSession → Sender
 onward s f y = record { fdt = f; window = s .window; count = s .count; sessions = s .sessions; «fdt_session» = y }
 
-module _ (s : Sender) (v : Valid s) (f : Fdt) (y : FdtSession) (taken : Bool) (slots : f .slots ≡ marked-slots taken (s .fdt .slots)) (same : SameObjects (s .fdt) f) where
+module _ (s : Sender) (v : ValidSender s) (f : Fdt) (y : FdtSession) (taken : Bool) (slots : f .slots ≡ marked-slots taken (s .fdt .slots)) (same : SameObjects (s .fdt) f) where
   is-sided : (a : Announcer) → with-announcer f a ≡ sided (s .fdt) taken a
   is-sided a = (λ i. record {
     settings = same .settings i;
@@ -202,7 +152,7 @@ module _ (s : Sender) (v : Valid s) (f : Fdt) (y : FdtSession) (taken : Bool) (s
         idle = k .idle;
       }
 
-  onward-valid : Holds f → FdtHolds f → FdtStands f (s .window) y → f .announcer .current .life .transferring ≡ y .busy → Valid (onward s f y)
+  onward-valid : Holds f → FdtHolds f → FdtStands f (s .window) y → f .announcer .current .life .transferring ≡ y .busy → ValidSender (onward s f y)
   onward-valid h g st m = record {
     holds = h;
     fdt-holds = g;
@@ -234,40 +184,21 @@ module _ (s : Sender) (v : Valid s) (f : Fdt) (y : FdtSession) (taken : Bool) (s
 
 -- a draft of length 0 is none on both sides
 draft-view : (draft : Draft) → Def.draft-of (draft-given draft) ≡ draft-given (real-draft draft)
-unfolding Def.draft-of real-draft
-draft-view Missing = refl
-draft-view (Given c) = by (eqb (c .size) 0)
-  where
-    by : (b : Bool) → (if b then none else some c) ≡ draft-given (if b then Missing else Given c)
-    by true = refl
-    by false = refl
+unfolding Def.draft-of
+draft-view draft = sym (real-given draft)
 
 -- it is refused for the same
 refusal-view : (u : Setup) (s : Sender) → Agrees u s → (draft : Draft) → Def.draft-refusal u (desk-of s .fdt) (draft-given draft) ≡ draft-test-of (real-draft draft) (s .fdt)
-unfolding Def.draft-refusal draft-test-of desk-of
-refusal-view u s g draft = ap (maybe none said) (draft-view draft) ∙ by (real-draft draft)
+unfolding Def.draft-refusal desk-of
+refusal-view u s g draft = ap (maybe none said) (draft-view draft) ∙ by (draft-given (real-draft draft)) ∙ sym (draft-test-as (real-draft draft) (s .fdt))
   where
-    said : Part → Option ℕ
-    said c = first-of ((4, bad-blocks (u .sizes) (c .size)) ∷ (5, bad-fdt-part u (state-of (s .fdt .announcer)) c) ∷ [])
+    said : Part → Option Refusal
+    said c = first-of ((Because.Sizes, bad-blocks (u .sizes) (c .size)) ∷ (Because.Part, bad-fdt-part u (state-of (s .fdt .announcer)) c) ∷ [])
 
-    by : (d : Draft) → maybe none said (draft-given d) ≡ draft-test-of d (s .fdt)
-    by Missing = refl
-    by (Given c) = λ i. first-of ((4, bad-blocks (g .sizes i) (c .size)) ∷ (5, sym (bad-said c u (s .fdt .settings .«fdt_store») (s .fdt .announcer) (g .fdt-store)) i) ∷ [])
-
--- the answer says the refusal
-abbrev Told : Option ℕ → Type 0
-Told none = Unit {0}
-Told (some n) = Def.Answer.refused n ≡ fdt-answer false (if eqb n 4 then RunV.Sizes else RunV.Part)
-
-test-told : (d : Draft) (f : Fdt) → Told (draft-test-of d f)
-unfolding draft-test-of
-test-told Missing f = tt
-test-told (Given c) f = by (bad-blocks (f .settings .sizes) (c .size)) (bad-fdt-of (f .settings .«fdt_store») c (f .announcer))
-  where
-    by : (a b : Bool) → Told (first-of ((4, a) ∷ (5, b) ∷ []))
-    by true b = refl
-    by false true = refl
-    by false false = tt
+    by : (o : Option Part) → maybe none said o
+        ≡ maybe none (λ (c : Part). first-of ((Because.Sizes, bad-blocks (s .fdt .settings .sizes) (c .size)) ∷ (Because.Part, bad-fdt-of (s .fdt .settings .«fdt_store») c (s .fdt .announcer)) ∷ [])) o
+    by none = refl
+    by (some c) = λ i. first-of ((Because.Sizes, bad-blocks (g .sizes i) (c .size)) ∷ (Because.Part, sym (bad-said c u (s .fdt .settings .«fdt_store») (s .fdt .announcer) (g .fdt-store)) i) ∷ [])
 
 -- ---- the call
 
@@ -287,23 +218,23 @@ set-up-of w z = record {
 }
 
 -- the packet is said
-answer-view : (taken : Bool) (id : ℕ) (a : Served) → Def.Answer.fdt-output taken (fdt-packet-said id a) ≡ fdt-answer taken (answer-of true 0 id a)
+answer-view : (taken : Bool) (id : ℕ) (a : Outcome) → Def.Answer.fdt-output taken (fdt-packet-said id a) ≡ fdt-answer taken (answer-of true 0 id a)
 answer-view taken id Idle = refl
 answer-view taken id (Sent y) = refl
 answer-view taken id Over = refl
 
 -- what the FDT session has in hand between two calls
-valid-stands : (s : Sender) → Valid s → FdtStands (s .fdt) (s .window) (s .«fdt_session»)
+valid-stands : (s : Sender) → ValidSender s → FdtStands (s .fdt) (s .window) (s .«fdt_session»)
 valid-stands s v = record { busy = v .fdt-busy; idle = v .fdt-idle }
 
 -- it may be run with a draft that passes the test
-pub tries-ready : (s : Sender) (draft : Draft) → Valid s → draft-test-of (real-draft draft) (s .fdt) ≡ none → FdtTries (s .fdt) (s .window) (real-draft draft) (s .«fdt_session»)
+pub tries-ready : (s : Sender) (draft : Draft) → ValidSender s → draft-test-of (real-draft draft) (s .fdt) ≡ none → FdtTries (s .fdt) (s .window) (real-draft draft) (s .«fdt_session»)
 tries-ready s draft v e =
     stands-tries (s .fdt) (s .window) (real-draft draft) (s .«fdt_session») (v .fdt-holds) (v .narrow) (draft-looked (real-draft draft) (s .fdt) (v .fdt-store) e) (valid-stands s v)
 
-module _ (s : Sender) (now : ℕ) (draft : Draft) (v : Valid s) where
+module _ (s : Sender) (now : ℕ) (draft : Draft) (v : ValidSender s) where
   -- what comes of a run
-  abbrev runs : FdtRan
+  abbrev runs : FdtTurn
   runs = fdt-ran-of (s .window) now (real-draft draft) (s .fdt) (s .«fdt_session»)
 
   module _ (e : draft-test-of (real-draft draft) (s .fdt) ≡ none) where
@@ -319,7 +250,7 @@ module _ (s : Sender) (now : ℕ) (draft : Draft) (v : Valid s) where
           means = λ u g. (
               let m = runs-means u (record { window = g .window; sizes = g .sizes; validity = g .validity; carousel = g .carousel }) in
               (λ i. Def.unless ((refusal-view u s g draft ∙ e) i) (desk-of s) (Def.fdt-ran u now (draft-view draft i) (desk-of s)))
-              ∙ ap (λ (r : FdtTurn). (Def.Answer.fdt-output (r .taken) (r .packet), if r .taken then Def.all-published (Def.with-fdt (desk-of s) (r .fdt)) else Def.with-fdt (desk-of s) (r .fdt))) (m .view)
+              ∙ ap (λ (r : DefTurn). (Def.Answer.fdt-output (r .taken) (r .packet), if r .taken then Def.all-published (Def.with-fdt (desk-of s) (r .fdt)) else Def.with-fdt (desk-of s) (r .fdt))) (m .view)
               ∙ (λ i. (answer-view (runs .taken) (runs .session .id) (runs .answer) i, sym (onward-desk s v (runs .fdt) (runs .session) (runs .taken) (t .slots) (t .same)) i)));
           agrees = onward-agrees s v (runs .fdt) (runs .session) (runs .taken) (t .slots) (t .same);
           valid = onward-valid s v (runs .fdt) (runs .session) (runs .taken) (t .slots) (t .same)
@@ -327,21 +258,21 @@ module _ (s : Sender) (now : ℕ) (draft : Draft) (v : Valid s) where
               (ran-matched (s .window) now (real-draft draft) (s .fdt) (s .«fdt_session») (v .holds .valid) (v .matched));
         }
 
-  run-refused : (n : ℕ) → draft-test-of (real-draft draft) (s .fdt) ≡ some n → (a : Def.Answer) → Def.Answer.refused n ≡ a → Kept s (Def.Call.run-fdt now (draft-given draft)) a s
+  run-refused : (why : Refusal) → draft-test-of (real-draft draft) (s .fdt) ≡ some why → Kept s (Def.Call.run-fdt now (draft-given draft)) (Def.Answer.refused why) s
   unfolding Def.step
-  run-refused n e a t = record {
-    means = λ u g. (λ i. Def.unless ((refusal-view u s g draft ∙ e) i) (desk-of s) (Def.fdt-ran u now (Def.draft-of (draft-given draft)) (desk-of s))) ∙ (λ i. (t i, desk-of s));
+  run-refused why e = record {
+    means = λ u g. (λ i. Def.unless ((refusal-view u s g draft ∙ e) i) (desk-of s) (Def.fdt-ran u now (Def.draft-of (draft-given draft)) (desk-of s)));
     agrees = λ u g. g;
     valid = v;
   }
 
 -- refusals 4 and 5 in their order; else it is run
-pub run-fdt-kept : (s : Sender) (now : ℕ) (draft : Draft) → Valid s
+pub run-fdt-kept : (s : Sender) (now : ℕ) (draft : Draft) → ValidSender s
     → Kept s (Def.Call.run-fdt now (draft-given draft)) (fdt-answer (fdt-running-of now draft s .taken) (fdt-running-of now draft s .answer)) (fdt-running-of now draft s .sender)
 unfolding fdt-running-of
-run-fdt-kept s now draft v = by (draft-test-of (real-draft draft) (s .fdt)) refl (test-told (real-draft draft) (s .fdt))
+run-fdt-kept s now draft v = by (draft-test-of (real-draft draft) (s .fdt)) refl
   where
-    by : (o : Option ℕ) → draft-test-of (real-draft draft) (s .fdt) ≡ o → Told o
+    by : (o : Option Refusal) → draft-test-of (real-draft draft) (s .fdt) ≡ o
         → (let r = fdt-running-by now (real-draft draft) s o in Kept s (Def.Call.run-fdt now (draft-given draft)) (fdt-answer (r .taken) (r .answer)) (r .sender))
-    by none e t = run-done s now draft v e
-    by (some n) e t = run-refused s now draft v n e _ t
+    by none e = run-done s now draft v e
+    by (some why) e = run-refused s now draft v why e

@@ -1,29 +1,32 @@
 -- The calls that change only numbers, or that the list is complete: reserve, release, complete.
-use mathlib.Core.Path.{_≡_, refl, sym, _∙_, ap}
-use mathlib.Core.Bool.{Bool, true, false, not, false≢true}
+use Rattle.sizes.specs.declared.refusal.Refusal.the-variants as Because
+use mathlib.Core.Path.{_≡_, refl, sym, _∙_, ap, subst}
+use mathlib.Core.Bool.{Bool, true, false, not}
 use mathlib.Core.List.{[], _∷_}
 use Prim.Native.Nat.{ℕ, _≤_, _<_}
 use lib.Dec.{ltb}
 use borrow.Author.Tests.{ltb-true, ltb-false}
-use Rattle.sizes.specs.Words.{if_then_else_, given, has, place, first-of}
+use Rattle.sizes.specs.Words.{if_then_else_, given, has, first-of}
 use Rattle.sizes.specs.Limits.{toi-entries}
 use Rattle.sizes.specs.Allocator as Alloc
 use Rattle.sizes.specs.declared.toiallocator.ToiAllocator.{ToiAllocator}
 use Rattle.sizes.specs.declared.toiallocator.Allocated.{Allocated}
 use Rattle.sizes.specs.declared.toiallocator.Changed.{Changed}
-use Rattle.sizes.specs.declared.toiallocator.Known.the-variants.{Done}
 use Rattle.sizes.proofs.Tests.{Tested, pass, fail, tested}
-use Rattle.sizes.proofs.AllocatorLaws.{given-fresh, full-by, loose-found}
-use Rattle.sizes.proofs.AllocatorViews.{allocated-room, loose-reserved, released-view, released-none}
+use Rattle.sizes.proofs.AllocatorLaws.{given-fresh, full-by}
+use Rattle.sizes.proofs.AllocatorViews.{allocated-room, loose-reserved, released-view, released-none, allocated-width, dropped-width, released-some}
 use Rattle.lifecycle.specs.Setup.{Setup}
-use Rattle.lifecycle.specs.FdtCalls.{with-tois, reserved-of, released-of}
+use Rattle.lifecycle.specs.FdtCalls.{with-tois}
 use Rattle.lifecycle.specs.declared.fdt.Fdt.{Fdt}
-use Rattle.lifecycle.proofs.FdtFacts.{if-on, maybe-on}
-use Rattle.definition.specs.Desk.{Call, Answer, Result, unless, step, not-loose, numbered, reserved, unloosed}
+use Rattle.lifecycle.specs.declared.fdt.Reserved.{Reserved}
+use Rattle.lifecycle.specs.declared.fdt.Released.{Released}
+use Rattle.lifecycle.proofs.FdtKeeps.{reserved-as, released-as}
+use Rattle.definition.specs.Desk.{reserve-refusal, release-refusal, Call, Answer, Result, unless, step, not-loose, numbered, reserved, unloosed}
 use Rattle.sender.specs.SessionCalls.{Holds}
 use Rattle.sender.specs.FdtSessionCalls.{FdtHolds}
-use Rattle.sender.specs.SenderCalls.{desk-of, Agrees, Valid, Kept, alloc-answer, with-list, reserving-of, releasing-of, completing-of}
+use Rattle.sender.specs.SenderCalls.{desk-of, Agrees, ValidSender, Kept, alloc-answer, with-list, reserving-of, releasing-of, completing-of}
 use Rattle.sender.specs.declared.sender.Sender.{Sender}
+use Rattle.sender.proofs.DeskChanges.{valid-list, agrees-list}
 use Rattle.sender.proofs.DeskCounts.{full-view, next-view}
 
 -- ---- the numbers are changed, or that the list is complete, and nothing else is
@@ -37,58 +40,27 @@ module _ (s : Sender) (c : Bool) (a : ToiAllocator) where
   abbrev pub numbered-sender : Sender
   numbered-sender = with-list s (numbered-list (s .fdt) c a)
 
-  pub valid-numbered : Valid s → Holds (numbered-sender .fdt) → FdtHolds (numbered-sender .fdt) → Valid numbered-sender
-  valid-numbered v h g = record {
-    holds = h;
-    fdt-holds = g;
-    object-store = v .object-store;
-    fdt-store = v .fdt-store;
-    narrow = v .narrow;
-    few = v .few;
-    long = v .long;
-    sessions = λ i l. (let x = v .sessions i l in record {
-      busy = λ b. (let y = x .busy b in record { slot = y .slot; sent = y .sent; encoder = y .encoder; part = y .part; sizes = y .sizes; width = y .width });
-      idle = x .idle;
-    });
-    spare = v .spare;
-    in-hand = v .in-hand;
-    fdt-busy = λ b. (let y = v .fdt-busy b in record { encoder = y .encoder; sizes = y .sizes; width = y .width });
-    fdt-idle = v .fdt-idle;
-    matched = v .matched;
-  }
-
-  pub agrees-numbered : a .width ≡ s .fdt .tois .width → (u : Setup) → Agrees u s → Agrees u numbered-sender
-  agrees-numbered e u w = record {
-    window = w .window;
-    sizes = w .sizes;
-    object-store = w .object-store;
-    fdt-store = w .fdt-store;
-    width = w .width ∙ sym e;
-    carousel = w .carousel;
-    validity = w .validity;
-  }
-
-  pub kept-numbered : (x : Call) (r : Answer) → Valid s → Holds (numbered-sender .fdt) → FdtHolds (numbered-sender .fdt) → a .width ≡ s .fdt .tois .width
+  pub kept-numbered : (x : Call) (r : Answer) → ValidSender s → Holds (numbered-sender .fdt) → FdtHolds (numbered-sender .fdt) → a .width ≡ s .fdt .tois .width
       → ((u : Setup) → Agrees u s → step u (desk-of s) x ≡ (r, desk-of numbered-sender)) → Kept s x r numbered-sender
-  kept-numbered x r v h g e m = record { means = m; agrees = agrees-numbered e; valid = valid-numbered v h g }
+  kept-numbered x r v h g e m = record {
+    means = m;
+    agrees = λ u w. agrees-list u s (numbered-list (s .fdt) c a) refl e w;
+    valid = valid-list s (numbered-list (s .fdt) c a) v (record { settings = refl; sent-same = λ j. refl; part = λ j k. refl; sizes = λ j k. refl; current = refl }) h g;
+  }
 
 -- ---- reserve
-
-allocated-width : (flag : Bool) (a : ToiAllocator) → Alloc.allocated-of flag a .allocator .width ≡ a .width
-unfolding Alloc.allocated-of Alloc.moved-on Alloc.noting
-allocated-width flag a = if-on (λ (x : Allocated). x .allocator .width ≡ a .width) (ltb (a .entered) toi-entries) (λ e. refl) (λ e. refl)
 
 -- what a call of allocate makes of the answer and the desk
 abbrev after-reserve : Sender → Allocated → Result
 after-reserve s x = (alloc-answer (Alloc.given-said (x .answer)), desk-of (with-list s (with-tois (s .fdt) (x .allocator))))
 
-module _ (s : Sender) (v : Valid s) (u : Setup) (w : Agrees u s) where
+module _ (s : Sender) (v : ValidSender s) (u : Setup) (w : Agrees u s) where
   -- refused or not, by the test that the allocator makes
-  reserve-tested : (b : Bool) → ltb (s .fdt .tois .entered) toi-entries ≡ b → step u (desk-of s) Call.reserve ≡ (if b then (Answer.number (s .fdt .tois .next), reserved u (desk-of s)) else (Answer.refused 7, desk-of s))
-  unfolding step desk-of
+  reserve-tested : (b : Bool) → ltb (s .fdt .tois .entered) toi-entries ≡ b → step u (desk-of s) Call.reserve ≡ (if b then (Answer.number (s .fdt .tois .next), reserved u (desk-of s)) else (Answer.refused Because.Full, desk-of s))
+  unfolding step reserve-refusal desk-of
   reserve-tested b e =
-      ap (λ x. unless (first-of ((7, x) ∷ [])) (desk-of s) (Answer.number (s .fdt .tois .next), reserved u (desk-of s))) (full-view s v ∙ ap not e)
-      ∙ elim b as (λ x. unless (first-of ((7, not x) ∷ [])) (desk-of s) (Answer.number (s .fdt .tois .next), reserved u (desk-of s)) ≡ (if x then (Answer.number (s .fdt .tois .next), reserved u (desk-of s)) else (Answer.refused 7, desk-of s)))
+      ap (λ x. unless (first-of ((Because.Full, x) ∷ [])) (desk-of s) (Answer.number (s .fdt .tois .next), reserved u (desk-of s))) (full-view s v ∙ ap not e)
+      ∙ elim b as (λ x. unless (first-of ((Because.Full, not x) ∷ [])) (desk-of s) (Answer.number (s .fdt .tois .next), reserved u (desk-of s)) ≡ (if x then (Answer.number (s .fdt .tois .next), reserved u (desk-of s)) else (Answer.refused Because.Full, desk-of s)))
       [ true ↦ refl | false ↦ refl ]
 
   reserve-room : s .fdt .tois .entered < toi-entries → (Answer.number (s .fdt .tois .next), reserved u (desk-of s)) ≡ after-reserve s (Alloc.allocated-of true (s .fdt .tois))
@@ -108,7 +80,7 @@ module _ (s : Sender) (v : Valid s) (u : Setup) (w : Agrees u s) where
       }) in
       (λ i. (Answer.number (a .next), d i)) ∙ sym (λ i. (alloc-answer (Alloc.given-said (q i)), desk-of (with-list s (with-tois (s .fdt) (r i)))))
 
-  reserve-full : toi-entries ≤ s .fdt .tois .entered → (Answer.refused 7, desk-of s) ≡ after-reserve s (Alloc.allocated-of true (s .fdt .tois))
+  reserve-full : toi-entries ≤ s .fdt .tois .entered → (Answer.refused Because.Full, desk-of s) ≡ after-reserve s (Alloc.allocated-of true (s .fdt .tois))
   reserve-full h = ap (after-reserve s) (full-by (s .fdt .tois) true h)
 
   reserve-means : step u (desk-of s) Call.reserve ≡ after-reserve s (Alloc.allocated-of true (s .fdt .tois))
@@ -118,32 +90,23 @@ module _ (s : Sender) (v : Valid s) (u : Setup) (w : Agrees u s) where
       go (pass e) = reserve-tested true e ∙ reserve-room (ltb-true (s .fdt .tois .entered) toi-entries e)
       go (fail e) = reserve-tested false e ∙ reserve-full (ltb-false (s .fdt .tois .entered) toi-entries e)
 
-pub reserve-kept : (s : Sender) → Valid s → Holds (reserving-of s .sender .fdt) → FdtHolds (reserving-of s .sender .fdt)
+pub reserve-kept : (s : Sender) → ValidSender s → Holds (reserving-of s .sender .fdt) → FdtHolds (reserving-of s .sender .fdt)
     → Kept s Call.reserve (alloc-answer (Alloc.given-said (reserving-of s .answer))) (reserving-of s .sender)
-unfolding reserving-of reserved-of
-reserve-kept s v h g =
+unfolding reserving-of
+reserve-kept s v =
     let x = Alloc.allocated-of true (s .fdt .tois) in
-    kept-numbered s (s .fdt .complete) (x .allocator) Call.reserve (alloc-answer (Alloc.given-said (x .answer))) v h g (allocated-width true (s .fdt .tois)) (λ u w. reserve-means s v u w)
+    subst (λ (r : Reserved). Holds (r .fdt) → FdtHolds (r .fdt) → Kept s Call.reserve (alloc-answer (Alloc.given-said (r .answer))) (with-list s (r .fdt))) (sym (reserved-as (s .fdt)))
+    (λ h g. kept-numbered s (s .fdt .complete) (x .allocator) Call.reserve (alloc-answer (Alloc.given-said (x .answer))) v h g (allocated-width (s .fdt .tois) true) (λ u w. reserve-means s v u w))
 
 -- ---- release
-
-pub dropped-width : (flag : Bool) (t : ℕ) (a : ToiAllocator) → Alloc.dropped-of flag t a .allocator .width ≡ a .width
-unfolding Alloc.dropped-of Alloc.without
-dropped-width flag t a = maybe-on (λ (x : Changed). x .allocator .width ≡ a .width) (place (Alloc.entry-is t flag) (Alloc.noted a)) (λ e. refl) (λ i e. refl)
-
--- a loose reservation is let go
-released-some : (t : ℕ) (a : ToiAllocator) → has t (Alloc.loose a) ≡ true → Alloc.dropped-of true t a .answer ≡ Done
-unfolding Alloc.dropped-of
-released-some t a h = maybe-on (λ (x : Changed). x .answer ≡ Done) (place (Alloc.entry-is t true) (Alloc.noted a))
-    (λ e. absurd (false≢true (ap given (sym e) ∙ loose-found t (Alloc.noted a) ∙ h))) (λ i e. refl)
 
 -- what a call of release makes of the answer and the desk
 abbrev after-release : Sender → Changed → Result
 after-release s x = (alloc-answer (Alloc.known-said (x .answer)), desk-of (with-list s (with-tois (s .fdt) (x .allocator))))
 
-module _ (s : Sender) (v : Valid s) (u : Setup) (t : ℕ) where
+module _ (s : Sender) (v : ValidSender s) (u : Setup) (t : ℕ) where
   release-some : has t (Alloc.loose (s .fdt .tois)) ≡ true → step u (desk-of s) (Call.release t) ≡ after-release s (Alloc.dropped-of true t (s .fdt .tois))
-  unfolding step not-loose numbered unloosed desk-of
+  unfolding step release-refusal not-loose numbered unloosed desk-of
   release-some h =
       let a = s .fdt .tois in
       let r = released-view a (v .holds .valid .tois) t in
@@ -155,14 +118,14 @@ module _ (s : Sender) (v : Valid s) (u : Setup) (t : ℕ) where
         sessions = desk-of s .sessions;
         fdt = desk-of s .fdt;
       }) in
-      ap (λ b. unless (first-of ((6, not b) ∷ [])) (desk-of s) (Answer.done, numbered (desk-of s) (a .next) (unloosed t (Alloc.loose a)))) h
-      ∙ (λ i. (alloc-answer (Alloc.known-said (sym (released-some t a h) i)), d i))
+      ap (λ b. unless (first-of ((Because.NotLoose, not b) ∷ [])) (desk-of s) (Answer.done, numbered (desk-of s) (a .next) (unloosed t (Alloc.loose a)))) h
+      ∙ (λ i. (alloc-answer (Alloc.known-said (sym (released-some a t h) i)), d i))
 
   release-none : has t (Alloc.loose (s .fdt .tois)) ≡ false → step u (desk-of s) (Call.release t) ≡ after-release s (Alloc.dropped-of true t (s .fdt .tois))
-  unfolding step not-loose desk-of
+  unfolding step release-refusal not-loose desk-of
   release-none h =
       let a = s .fdt .tois in
-      ap (λ b. unless (first-of ((6, not b) ∷ [])) (desk-of s) (Answer.done, numbered (desk-of s) (a .next) (unloosed t (Alloc.loose a)))) h
+      ap (λ b. unless (first-of ((Because.NotLoose, not b) ∷ [])) (desk-of s) (Answer.done, numbered (desk-of s) (a .next) (unloosed t (Alloc.loose a)))) h
       ∙ ap (after-release s) (sym (released-none a t h))
 
   release-means : step u (desk-of s) (Call.release t) ≡ after-release s (Alloc.dropped-of true t (s .fdt .tois))
@@ -172,15 +135,16 @@ module _ (s : Sender) (v : Valid s) (u : Setup) (t : ℕ) where
       go (pass e) = release-some e
       go (fail e) = release-none e
 
-pub release-kept : (t : ℕ) (s : Sender) → Valid s → Holds (releasing-of t s .sender .fdt) → FdtHolds (releasing-of t s .sender .fdt)
+pub release-kept : (t : ℕ) (s : Sender) → ValidSender s → Holds (releasing-of t s .sender .fdt) → FdtHolds (releasing-of t s .sender .fdt)
     → Kept s (Call.release t) (alloc-answer (Alloc.known-said (releasing-of t s .answer))) (releasing-of t s .sender)
-unfolding releasing-of released-of
-release-kept t s v h g =
+unfolding releasing-of
+release-kept t s v =
     let x = Alloc.dropped-of true t (s .fdt .tois) in
-    kept-numbered s (s .fdt .complete) (x .allocator) (Call.release t) (alloc-answer (Alloc.known-said (x .answer))) v h g (dropped-width true t (s .fdt .tois)) (λ u w. release-means s v u t)
+    subst (λ (r : Released). Holds (r .fdt) → FdtHolds (r .fdt) → Kept s (Call.release t) (alloc-answer (Alloc.known-said (r .answer))) (with-list s (r .fdt))) (sym (released-as (s .fdt) t))
+    (λ h g. kept-numbered s (s .fdt .complete) (x .allocator) (Call.release t) (alloc-answer (Alloc.known-said (x .answer))) v h g (dropped-width (s .fdt .tois) true t) (λ u w. release-means s v u t))
 
 -- ---- complete
 
-pub complete-kept : (s : Sender) → Valid s → Holds (completing-of s .fdt) → FdtHolds (completing-of s .fdt) → Kept s Call.complete Answer.done (completing-of s)
+pub complete-kept : (s : Sender) → ValidSender s → Holds (completing-of s .fdt) → FdtHolds (completing-of s .fdt) → Kept s Call.complete Answer.done (completing-of s)
 unfolding step desk-of
 complete-kept s v h g = kept-numbered s true (s .fdt .tois) Call.complete Answer.done v h g refl (λ u w. refl)

@@ -1,11 +1,12 @@
 -- Publish under the sender: every listed object is marked, waiting or in hand, and the FDT is queued; its refusals.
-use mathlib.Core.Path.{_≡_, refl, sym, _∙_, ap}
-use mathlib.Core.Bool.{true, false, _||_}
-use mathlib.Core.Option.{none, some}
+use Rattle.sizes.specs.declared.refusal.Refusal.{Refusal}
+use Rattle.sizes.specs.declared.refusal.Refusal.the-variants as Because
+use mathlib.Core.Path.{_≡_, refl, sym, _∙_, ap, subst}
+use mathlib.Core.Bool.{Bool, true, false, _||_}
+use mathlib.Core.Option.{Option, none, some}
 use mathlib.Core.List.{[], _∷_, map}
 use Prim.Native.Nat.{ℕ, _<_}
 use lib.Dec.{eqb, leb}
-use borrow.Author.Tests.{leb-false}
 use Rattle.sizes.specs.Words.{if_then_else_, first-of}
 use Rattle.sizes.specs.Limits.{waiting-fdts}
 use Rattle.sizes.specs.Allocator as Alloc
@@ -13,26 +14,27 @@ use Rattle.sizes.proofs.Lists.{each-all, map-comm}
 use Rattle.lifecycle.specs.Setup.{Setup, bad-blocks}
 use Rattle.lifecycle.specs.FileDesc.{pace-said}
 use Rattle.lifecycle.specs.Slots.{slot-at, published-slot}
-use Rattle.lifecycle.specs.Announce.{state-of, queued-of, bad-fdt-of}
-use Rattle.lifecycle.specs.FdtCalls.{files, sends, with-slots, announced, publication-said, publish-of}
-use Rattle.lifecycle.specs.FdtMeans.{published-file}
+use Rattle.lifecycle.specs.Announce.{state-of, queued-of}
+use Rattle.lifecycle.specs.FdtCalls.{files, sends, with-slots, with-published, publication-said}
+use Rattle.lifecycle.proofs.FdtMeans.{published-file}
 use Rattle.lifecycle.specs.declared.parts.Part.{Part}
 use Rattle.lifecycle.specs.declared.filedesc.FileDesc.{FileDesc}
 use Rattle.lifecycle.specs.declared.slots.Slot.{Slot}
+use Rattle.lifecycle.specs.declared.announce.Instance.{Instance}
 use Rattle.lifecycle.specs.declared.announce.Announcer.{Announcer}
 use Rattle.lifecycle.specs.declared.fdt.Fdt.{Fdt}
 use Rattle.lifecycle.specs.declared.fdt.Published.{Published}
 use Rattle.lifecycle.proofs.FileDescLaws.{life-published}
 use Rattle.lifecycle.proofs.AnnounceLaws.{waiting-length, state-queued, bad-said}
-use Rattle.lifecycle.proofs.FdtFacts.{if-on}
+use Rattle.lifecycle.proofs.FdtKeeps.{marks-slot, publish-refusal-of, publishable, published-by, publish-as, queued-current}
 use Rattle.lifecycle.proofs.FdtViews.{published-at, published-view}
 use Rattle.definition.specs.FdtSession.{fdt-published}
-use Rattle.definition.specs.Session.{living}
+use Rattle.definition.specs.Session.{Object, Hand, living}
 use Rattle.definition.specs.Desk as Def
 use Rattle.sender.specs.EncoderCalls.{encoder-of}
 use Rattle.sender.specs.SessionCalls.{object-of, hand-of, session-of, Holds}
 use Rattle.sender.specs.FdtSessionCalls.{FdtHolds, fdt-hand-of}
-use Rattle.sender.specs.SenderCalls.{working, desk-of, Agrees, Valid, Kept, alloc-answer, with-list, publishing-of}
+use Rattle.sender.specs.SenderCalls.{working, desk-of, Agrees, ValidSender, Kept, alloc-answer, with-list, publishing-of}
 use Rattle.sender.specs.declared.sendersession.SenderSession.{SenderSession}
 use Rattle.sender.specs.declared.fdtsession.FdtSession.{FdtSession}
 use Rattle.sender.specs.declared.sender.Sender.{Sender}
@@ -45,18 +47,23 @@ unfolding Def.marked
 published-object o = ap (λ x. living x (object-of o)) (life-published (o .life))
 
 published-hand : (y : Slot) (x : SenderSession) → hand-of (published-slot y) x ≡ Def.marked-hand (hand-of y x)
-unfolding published-slot Def.marked-hand
-published-hand y x = (elim (y .listed) as (λ b. y .listed ≡ b → hand-of (if b then record { holders = y .holders; listed = y .listed; file = published-file (y .file) } else y) x
-    ≡ (if b then record { object = Def.marked (object-of (y .file)); listed = true; encoder = encoder-of (x .encoder); pace = pace-said (x .pace) } else hand-of y x)) [
-      | true ↦ λ e. (λ i. record { object = published-object (y .file) i; listed = e i; encoder = encoder-of (x .encoder); pace = pace-said (x .pace) })
+unfolding Def.marked-hand
+published-hand y x =
+    let m = marks-slot y in
+    (λ i. hand (object-of (m .file i)) (m .listed i))
+    ∙ (elim (y .listed) as (λ b. y .listed ≡ b → hand (object-of (if b then published-file (y .file) else y .file)) (y .listed) ≡ (if b then hand (Def.marked (object-of (y .file))) true else hand-of y x)) [
+      | true ↦ λ e. (λ i. hand (published-object (y .file) i) (e i))
       | false ↦ λ e. refl
     ]) refl
+  where
+    hand : Object → Bool → Hand
+    hand o b = record { object = o; listed = b; encoder = encoder-of (x .encoder); pace = pace-said (x .pace) }
 
 -- the sender with another FDT side
 abbrev pub with-side : Sender → Announcer → FdtSession → Sender
-with-side s a y = record { fdt = announced (s .fdt) a; window = s .window; count = s .count; sessions = s .sessions; «fdt_session» = y }
+with-side s a y = record { fdt = with-published (s .fdt) a; window = s .window; count = s .count; sessions = s .sessions; «fdt_session» = y }
 
-pub announced-desk : (s : Sender) → Valid s → (a : Announcer) (y : FdtSession)
+pub announced-desk : (s : Sender) → ValidSender s → (a : Announcer) (y : FdtSession)
     → desk-of (with-side s a y) ≡ Def.all-published (Def.with-fdt (desk-of s) (record { state = state-of a; hand = fdt-hand-of y }))
 unfolding desk-of Def.all-published Def.moved Def.with-fdt
 announced-desk s v a y = λ i. record {
@@ -77,36 +84,28 @@ announced-desk s v a y = λ i. record {
         (λ j x e. ap (λ (z : Slot). hand-of z x) (published-at (s .fdt .slots) j) ∙ published-hand (slot-at (s .fdt .slots) j) x)
 
 -- what is in transfer stays in transfer, with its part and sizes
-published-same : (y : Slot) → (sends (published-slot y) ≡ sends y) × (published-slot y .file .part ≡ y .file .part) × (published-slot y .file .sizes ≡ y .file .sizes)
-unfolding published-slot
-published-same y = if-on (λ (z : Slot). (sends z ≡ sends y) × (z .file .part ≡ y .file .part) × (z .file .sizes ≡ y .file .sizes)) (y .listed) (λ e. (refl, refl, refl)) (λ e. (refl, refl, refl))
-
-pub announced-stays : (f : Fdt) (a : Announcer) → a .current .life .transferring ≡ f .announcer .current .life .transferring → Stays f (announced f a)
+pub announced-stays : (f : Fdt) (a : Announcer) → a .current .life .transferring ≡ f .announcer .current .life .transferring → Stays f (with-published f a)
 announced-stays f a e = record {
   settings = refl;
-  sent-same = λ j. ap sends (published-at (f .slots) j) ∙ published-same (slot-at (f .slots) j) .0;
-  part = λ j s. ap (λ (y : Slot). y .file .part) (published-at (f .slots) j) ∙ published-same (slot-at (f .slots) j) .1;
-  sizes = λ j s. ap (λ (y : Slot). y .file .sizes) (published-at (f .slots) j) ∙ published-same (slot-at (f .slots) j) .2;
+  sent-same = λ j. ap sends (published-at (f .slots) j) ∙ marks-slot (slot-at (f .slots) j) .sent;
+  part = λ j s. ap (λ (y : Slot). y .file .part) (published-at (f .slots) j) ∙ marks-slot (slot-at (f .slots) j) .part;
+  sizes = λ j s. ap (λ (y : Slot). y .file .sizes) (published-at (f .slots) j) ∙ marks-slot (slot-at (f .slots) j) .sizes;
   current = e;
 }
 
 -- ---- the call
 
 -- why it is refused
-pub refusal-view : (u : Setup) (s : Sender) → Valid s → Agrees u s → (c : Part) → Def.publish-refusal u (desk-of s .fdt) c ≡ first-of
-    ((4, bad-blocks (s .fdt .settings .sizes) (c .size))
-    ∷ (5, bad-fdt-of (s .fdt .settings .«fdt_store») c (s .fdt .announcer) || eqb (c .size) 0)
-    ∷ (7, leb waiting-fdts (s .fdt .announcer .waiting))
-    ∷ [])
+pub refusal-view : (u : Setup) (s : Sender) → ValidSender s → Agrees u s → (c : Part) → Def.publish-refusal u (desk-of s .fdt) c ≡ publish-refusal-of c (s .fdt)
 unfolding Def.publish-refusal desk-of
 refusal-view u s v g c = λ i. first-of
-    ((4, bad-blocks (g .sizes i) (c .size))
-    ∷ (5, sym (bad-said c u (s .fdt .settings .«fdt_store») (s .fdt .announcer) (g .fdt-store)) i || eqb (c .size) 0)
-    ∷ (7, leb waiting-fdts (waiting-length (s .fdt .announcer) (v .holds .valid .fdts) i))
+    ((Because.Sizes, bad-blocks (g .sizes i) (c .size))
+    ∷ (Because.Part, sym (bad-said c u (s .fdt .settings .«fdt_store») (s .fdt .announcer) (g .fdt-store)) i || eqb (c .size) 0)
+    ∷ (Because.Full, leb waiting-fdts (waiting-length (s .fdt .announcer) (v .holds .valid .fdts) i))
     ∷ [])
 
-module _ (s : Sender) (now : ℕ) (c : Part) (v : Valid s) where
-  publish-refused : (n : ℕ) → ((u : Setup) → Agrees u s → Def.publish-refusal u (desk-of s .fdt) c ≡ some n) → Kept s (Def.Call.publish now c) (Def.Answer.refused n) s
+module _ (s : Sender) (now : ℕ) (c : Part) (v : ValidSender s) where
+  publish-refused : (n : Refusal) → ((u : Setup) → Agrees u s → Def.publish-refusal u (desk-of s .fdt) c ≡ some n) → Kept s (Def.Call.publish now c) (Def.Answer.refused n) s
   unfolding Def.step
   publish-refused n h = record {
     means = λ u g. ap (λ o. Def.unless o (desk-of s) (Def.Answer.done, Def.all-published (Def.with-fdt (desk-of s) (fdt-published now c (desk-of s .fdt))))) (h u g);
@@ -115,12 +114,12 @@ module _ (s : Sender) (now : ℕ) (c : Part) (v : Valid s) where
   }
 
   publish-done : ((u : Setup) → Agrees u s → Def.publish-refusal u (desk-of s .fdt) c ≡ none) → s .fdt .announcer .waiting < waiting-fdts
-      → Holds (announced (s .fdt) (queued-of now c (s .fdt .announcer))) → FdtHolds (announced (s .fdt) (queued-of now c (s .fdt .announcer)))
-      → Kept s (Def.Call.publish now c) Def.Answer.done (with-list s (announced (s .fdt) (queued-of now c (s .fdt .announcer))))
-  unfolding Def.step fdt-published desk-of queued-of
+      → Holds (with-published (s .fdt) (queued-of now c (s .fdt .announcer))) → FdtHolds (with-published (s .fdt) (queued-of now c (s .fdt .announcer)))
+      → Kept s (Def.Call.publish now c) Def.Answer.done (with-list s (with-published (s .fdt) (queued-of now c (s .fdt .announcer))))
+  unfolding Def.step fdt-published desk-of
   publish-done h room a b =
       let n = queued-of now c (s .fdt .announcer) in
-      let f = announced (s .fdt) n in
+      let f = with-published (s .fdt) n in
       let st = state-queued (s .fdt .announcer) (v .holds .valid .fdts) now c room in
       record {
         means = λ u g. (
@@ -128,22 +127,18 @@ module _ (s : Sender) (now : ℕ) (c : Part) (v : Valid s) where
             ∙ (λ i. (Def.Answer.done, Def.all-published (Def.with-fdt (desk-of s) (record { state = sym st i; hand = desk-of s .fdt .hand }))))
             ∙ (λ i. (Def.Answer.done, sym (announced-desk s v n (s .«fdt_session»)) i)));
         agrees = λ u g. agrees-list u s f refl refl g;
-        valid = valid-list s f v (announced-stays (s .fdt) n refl) a b;
+        valid = valid-list s f v (announced-stays (s .fdt) n (ap (λ (i : Instance). i .life .transferring) (queued-current now c (s .fdt .announcer)))) a b;
       }
 
   -- refusals 4, 5 and 7 in their order; else it is done
   pub publish-kept : Holds (publishing-of now c s .sender .fdt) → FdtHolds (publishing-of now c s .sender .fdt)
       → Kept s (Def.Call.publish now c) (alloc-answer (publication-said (publishing-of now c s .answer))) (publishing-of now c s .sender)
-  unfolding publishing-of publish-of
-  publish-kept =
-      let f = s .fdt in
-      let bad = bad-blocks (f .settings .sizes) (c .size) in
-      let part = bad-fdt-of (f .settings .«fdt_store») c (f .announcer) || eqb (c .size) 0 in
-      let full = leb waiting-fdts (f .announcer .waiting) in
-      if-on Goes bad (λ p a b. publish-refused 4 (λ u g. refusal-view u s v g c ∙ (λ i. first-of ((4, p i) ∷ (5, part) ∷ (7, full) ∷ []))))
-      (λ p. if-on Goes part (λ q a b. publish-refused 5 (λ u g. refusal-view u s v g c ∙ (λ i. first-of ((4, p i) ∷ (5, q i) ∷ (7, full) ∷ []))))
-      (λ q. if-on Goes full (λ r a b. publish-refused 7 (λ u g. refusal-view u s v g c ∙ (λ i. first-of ((4, p i) ∷ (5, q i) ∷ (7, r i) ∷ []))))
-      (λ r. publish-done (λ u g. refusal-view u s v g c ∙ (λ i. first-of ((4, p i) ∷ (5, q i) ∷ (7, r i) ∷ []))) (leb-false waiting-fdts (f .announcer .waiting) r))))
+  unfolding publishing-of
+  publish-kept = subst Goes (sym (publish-as c (s .fdt) now)) (by (publish-refusal-of c (s .fdt)) refl)
     where
       Goes : Published → Type 0
       Goes r = Holds (r .fdt) → FdtHolds (r .fdt) → Kept s (Def.Call.publish now c) (alloc-answer (publication-said (r .answer))) (with-list s (r .fdt))
+
+      by : (o : Option Refusal) → publish-refusal-of c (s .fdt) ≡ o → Goes (published-by c (s .fdt) now o)
+      by (some why) e a b = publish-refused why (λ u g. refusal-view u s v g c ∙ e)
+      by none e a b = publish-done (λ u g. refusal-view u s v g c ∙ e) (publishable c (s .fdt) e .room) a b

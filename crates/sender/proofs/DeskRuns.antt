@@ -1,4 +1,5 @@
--- A run of a file session under the sender: the answer and the desk are the definition's, and Valid is kept.
+-- A run of a file session under the sender: the answer and the desk are the definition's, and the sender stays valid.
+use Rattle.sizes.specs.declared.refusal.Refusal.the-variants as Because
 use mathlib.Core.Path.{_≡_, refl, sym, _∙_, ap, subst}
 use mathlib.Core.Bool.{Bool, true, false, _&&_}
 use mathlib.Core.Option.{none, some}
@@ -9,57 +10,44 @@ use lib.Dec.{eqb, ltb}
 use lib.ListN.{length, set, getD, take, length-set}
 use lib.Seq.{getD-set-same, getD-set-other, getD-take, take-set-lt, length-take-le}
 use borrow.Author.Tests.{eqb-true, eqb-false, ltb-true, ltb-false}
-use Rattle.sizes.specs.Words.{if_then_else_, maybe, over, collect, at, place, one-if, Counts}
+use Rattle.sizes.specs.Words.{if_then_else_, maybe, over, collect, at, one-if, Counts}
 use Rattle.sizes.specs.Limits.{object-slots}
-use Rattle.sizes.proofs.Tests.{Tested, pass, fail, tested}
+use Rattle.sizes.proofs.Tests.{Tested, pass, fail, tested, if-on}
 use Rattle.sizes.proofs.Lists.{at-map}
 use Rattle.sizes.proofs.Tables.{map-at}
 use Rattle.sizes.proofs.Collects.{at-inside, adds, collect-set, collect-at}
 use Rattle.lifecycle.specs.Lifecycle as Life
 use Rattle.lifecycle.specs.Setup.{Setup}
-use Rattle.lifecycle.specs.Slots.{no-slot, slot-at, queue-startable}
+use Rattle.lifecycle.specs.Slots.{no-slot, slot-at}
 use Rattle.lifecycle.specs.Announce.{state-of, waits-of}
-use Rattle.lifecycle.specs.FdtCalls.{waiting, sends, taken-at, taken-of, goes-back, back-of, let-go-of, done-of}
-use Rattle.lifecycle.specs.declared.slots.Place.{Place}
-use Rattle.lifecycle.specs.declared.slots.Place.the-variants as PlaceV
+use Rattle.lifecycle.specs.FdtCalls.{sends, taken-of}
+use Rattle.sizes.specs.declared.place.Place.{Place}
+use Rattle.sizes.specs.declared.place.Place.the-variants as PlaceV
 use Rattle.lifecycle.specs.declared.fdt.Fdt.{Fdt}
-use Rattle.lifecycle.specs.declared.fdt.Taken.{Taken}
 use Rattle.lifecycle.specs.declared.announce.Announcer.{Announcer}
 use Rattle.lifecycle.proofs.AnnounceLaws.{waits-said}
-use Rattle.lifecycle.proofs.FdtFacts.{maybe-on, if-on}
+use Rattle.lifecycle.proofs.FdtKeeps.{taken-keeps, done-keeps}
 use Rattle.definition.specs.Session as DefS
 use Rattle.definition.specs.Desk as Def
 use Rattle.sender.specs.SessionCalls.{session-of, Runs, idle-of, ran-by, served-of, forced-slot, attended-of, taken-by, taken-on-of, again-by, ran-of}
 use Rattle.sender.specs.FdtSessionCalls.{fdt-hand-of}
-use Rattle.sender.specs.SessionMeans.{Stands, has-slot, queue-of, packet-said, turn-of, SameSide, FileRuns}
-use Rattle.sender.specs.SenderCalls.{working, desk-of, Agrees, slot-in, Valid, Kept, file-answer, answer-of, running-of}
+use Rattle.sender.specs.SessionMeans.{Stands, queue-of}
+use Rattle.sender.specs.SenderCalls.{working, desk-of, Agrees, slot-in, ValidSender, Kept, file-answer, answer-of, running-of}
 use Rattle.sender.specs.declared.sendersession.SenderSession.{SenderSession}
-use Rattle.sender.specs.declared.sendersession.Served.{Served}
-use Rattle.sender.specs.declared.sendersession.Served.the-variants.{Idle, Sent, Over}
-use Rattle.sender.specs.declared.sendersession.Ran.{Ran}
+use Rattle.sender.specs.declared.sendersession.Outcome.{Outcome}
+use Rattle.sender.specs.declared.sendersession.Outcome.the-variants.{Idle, Sent, Over}
+use Rattle.sender.specs.declared.sendersession.Turn.{Turn}
 use Rattle.sender.specs.declared.sender.Sender.{Sender}
 use Rattle.sender.specs.declared.sender.Running.{Running}
-use Rattle.sender.proofs.SessionFacts.{stands-runs}
+use Rattle.sender.proofs.SessionFacts.{stands-runs, has-slot, packet-said, turn-of, SameSide, FileRuns}
 use Rattle.sender.proofs.SessionViews.{ran-means, ran-hand, ran-counts, ran-stands, ran-session}
 use Rattle.sender.proofs.FdtSessionLaws.{fdt-holds-over}
 use Rattle.sender.proofs.DeskChanges.{working-stands}
-use Rattle.sender.proofs.DeskNumbers.{dropped-width}
 
 -- ---- the width of the numbers stays
 
-done-width : (now k : ℕ) (f : Fdt) → done-of now k f .tois .width ≡ f .tois .width
-unfolding done-of back-of let-go-of
-done-width now k f =
-    let y = slot-at (f .slots) k in
-    let P : Fdt → Type 0 = λ r. r .tois .width ≡ f .tois .width in
-    if-on P (sends y) (λ s. if-on P (goes-back now y) (λ g. refl) (λ g. dropped-width false (y .file .toi) (f .tois))) (λ s. refl)
-
-taken-width : (p now : ℕ) (f : Fdt) → taken-of p now f .fdt .tois .width ≡ f .tois .width
-unfolding taken-of taken-at
-taken-width p now f = maybe-on (λ (t : Taken). t .fdt .tois .width ≡ f .tois .width) (place (queue-startable (f .slots) p now) (waiting f)) (λ e. refl) (λ n e. refl)
-
-ran-by-width : (now : ℕ) (f : Fdt) (x y : SenderSession) (a : Served) → ran-by now f x y a .fdt .tois .width ≡ f .tois .width
-ran-by-width now f x y Over = done-width now (x .slot) f
+ran-by-width : (now : ℕ) (f : Fdt) (x y : SenderSession) (a : Outcome) → ran-by now f x y a .fdt .tois .width ≡ f .tois .width
+ran-by-width now f x y Over = done-keeps f now (x .slot) .width
 ran-by-width now f x y Idle = refl
 ran-by-width now f x y (Sent s) = refl
 
@@ -71,7 +59,7 @@ attended-width now f x =
 
 taken-on-width : (w now : ℕ) (f : Fdt) (x : SenderSession) → taken-on-of w now f x .fdt .tois .width ≡ f .tois .width
 unfolding taken-on-of
-taken-on-width w now f x = go (taken-of (x .priority) now f .fdt) (taken-of (x .priority) now f .answer) ∙ taken-width (x .priority) now f
+taken-on-width w now f x = go (taken-of (x .priority) now f .fdt) (taken-of (x .priority) now f .answer) ∙ taken-keeps f (x .priority) now .width
   where
     go : (t : Fdt) (a : Place) → taken-by w now t x a .fdt .tois .width ≡ t .tois .width
     go t PlaceV.Nothing = refl
@@ -80,10 +68,10 @@ taken-on-width w now f x = go (taken-of (x .priority) now f .fdt) (taken-of (x .
 pub ran-width : (w now : ℕ) (f : Fdt) (x : SenderSession) → ran-of w now f x .fdt .tois .width ≡ f .tois .width
 unfolding ran-of
 ran-width w now f x =
-    if-on (λ (r : Ran). r .fdt .tois .width ≡ f .tois .width) (x .busy)
+    if-on (λ (r : Turn). r .fdt .tois .width ≡ f .tois .width) (x .busy)
     (λ e. go (attended-of now f x) (attended-of now f x .answer) ∙ attended-width now f x) (λ e. taken-on-width w now f x)
   where
-    go : (a : Ran) (b : Served) → again-by w now a b .fdt .tois .width ≡ a .fdt .tois .width
+    go : (a : Turn) (b : Outcome) → again-by w now a b .fdt .tois .width ≡ a .fdt .tois .width
     go a Over = taken-on-width w now (a .fdt) (a .session)
     go a Idle = refl
     go a (Sent s) = refl
@@ -118,7 +106,7 @@ hand-adds : (x : SenderSession) (j : ℕ) → adds j (slot-in x) ≡ one-if (has
 hand-adds x j = elim (x .busy) as (λ b. adds j (if b then some (x .slot) else none) ≡ one-if (b && eqb (x .slot) j)) [ true ↦ refl | false ↦ refl ]
 
 -- the definition's answer is that of the code
-answer-said : (toi : ℕ) (a : Served) → Def.Answer.output (packet-said toi a) ≡ file-answer (answer-of false toi 0 a)
+answer-said : (toi : ℕ) (a : Outcome) → Def.Answer.output (packet-said toi a) ≡ file-answer (answer-of false toi 0 a)
 answer-said toi Idle = refl
 answer-said toi Over = refl
 answer-said toi (Sent y) = refl
@@ -138,12 +126,12 @@ windowed w = record {
   validity = 0;
 }
 
-module _ (s : Sender) (v : Valid s) (i now : ℕ) (h : i < s .count) where
+module _ (s : Sender) (v : ValidSender s) (i now : ℕ) (h : i < s .count) where
   -- the session, its run, and the sender after it
   abbrev x : SenderSession
   x = getD (s .sessions) i (idle-of 0)
 
-  abbrev r : Ran
+  abbrev r : Turn
   r = ran-of (s .window) now (s .fdt) x
 
   abbrev s′ : Sender
@@ -251,10 +239,10 @@ module _ (s : Sender) (v : Valid s) (i now : ℕ) (h : i < s .count) where
         (ran-counts u (s .window) now window (s .fdt) x ready stands (collect slot-in (working s)) (collect slot-in (set (working s) i (r .session))) (v .in-hand)
         (λ j. let a = collect-set slot-in j (working s) i x (r .session) at-i in let b = hand-adds x j in let c = hand-adds (r .session) j in omega arith))
 
-    valid-run : Valid s′
+    valid-run : ValidSender s′
     valid-run = record {
       holds = runs .holds;
-      fdt-holds = fdt-holds-over (s .fdt) (r .fdt) (v .fdt-holds) (runs .holds .valid) (record { settings = same .settings; announcer = same .announcer });
+      fdt-holds = fdt-holds-over (s .fdt) (r .fdt) (v .fdt-holds) (runs .holds .valid) (same .settings) (same .announcer);
       object-store = rw (same .settings) (v .object-store);
       fdt-store = rw (same .settings) (v .fdt-store);
       narrow = v .narrow;
@@ -279,38 +267,38 @@ module _ (s : Sender) (v : Valid s) (i now : ℕ) (h : i < s .count) where
       validity = rw (same .settings) (a .validity);
     }
 
-  step-run : (u : Setup) → Agrees u s → Def.step u (desk-of s) (Def.Call.run-file now i) ≡ (file-answer (answer-of false (slot-at (r .fdt .slots) (r .session .slot) .file .toi) 0 (r .answer)), desk-of s′)
+  step-run : (u : Setup) → Agrees u s → Def.step u (desk-of s) (Def.Call.run-file i now) ≡ (file-answer (answer-of false (slot-at (r .fdt .slots) (r .session .slot) .file .toi) 0 (r .answer)), desk-of s′)
   unfolding Def.step desk-of
   step-run u a =
-      ap (maybe (Def.Answer.refused 8, desk-of s) (Def.ran u now i (desk-of s))) (at-map (session-of (s .fdt .slots)) (working s) i ∙ ap (over (session-of (s .fdt .slots))) at-i)
+      ap (maybe (Def.Answer.refused Because.NoSession, desk-of s) (Def.ran u now i (desk-of s))) (at-map (session-of (s .fdt .slots)) (working s) i ∙ ap (over (session-of (s .fdt .slots))) at-i)
       ∙ run-said u (a .window)
       ∙ (λ k. (answer-said (slot-at (r .fdt .slots) (r .session .slot) .file .toi) (r .answer) k, desk-of s′))
 
-  kept-run : Kept s (Def.Call.run-file now i) (file-answer (answer-of false (slot-at (r .fdt .slots) (r .session .slot) .file .toi) 0 (r .answer))) s′
+  kept-run : Kept s (Def.Call.run-file i now) (file-answer (answer-of false (slot-at (r .fdt .slots) (r .session .slot) .file .toi) 0 (r .answer))) s′
   kept-run = record { means = step-run; agrees = λ u a. agrees-run u (a .window) a; valid = valid-run (windowed (s .window)) refl }
 
 -- refusal 8: there is no such session
-kept-refused : (s : Sender) → Valid s → (i now : ℕ) → s .count ≤ i → Kept s (Def.Call.run-file now i) (Def.Answer.refused 8) s
+kept-refused : (s : Sender) → ValidSender s → (i now : ℕ) → s .count ≤ i → Kept s (Def.Call.run-file i now) (Def.Answer.refused Because.NoSession) s
 unfolding Def.step desk-of
 kept-refused s v i now h = record {
-  means = λ u a. ap (maybe (Def.Answer.refused 8, desk-of s) (Def.ran u now i (desk-of s))) (at-map (session-of (s .fdt .slots)) (working s) i ∙ ap (over (session-of (s .fdt .slots))) (at-past (s .sessions) (s .count) i h));
+  means = λ u a. ap (maybe (Def.Answer.refused Because.NoSession, desk-of s) (Def.ran u now i (desk-of s))) (at-map (session-of (s .fdt .slots)) (working s) i ∙ ap (over (session-of (s .fdt .slots))) (at-past (s .sessions) (s .count) i h));
   agrees = λ u a. a;
   valid = v;
 }
 
 -- ---- the call
 
-pub run-kept : (s : Sender) (i now : ℕ) → Valid s → Kept s (Def.Call.run-file now i) (file-answer (running-of i now s .answer)) (running-of i now s .sender)
+pub run-kept : (s : Sender) (i now : ℕ) → ValidSender s → Kept s (Def.Call.run-file i now) (file-answer (running-of i now s .answer)) (running-of i now s .sender)
 unfolding running-of
-run-kept s i now v = if-on (λ (a : Running). Kept s (Def.Call.run-file now i) (file-answer (a .answer)) (a .sender)) (ltb i (s .count))
+run-kept s i now v = if-on (λ (a : Running). Kept s (Def.Call.run-file i now) (file-answer (a .answer)) (a .sender)) (ltb i (s .count))
     (λ e. kept-run s v i now (ltb-true i (s .count) e)) (λ e. kept-refused s v i now (ltb-false i (s .count) e))
 
 -- what the code's run requires
-pub runs-ready : (s : Sender) (i : ℕ) → Valid s → i < s .count → Runs (s .fdt) (s .window) (getD (s .sessions) i (idle-of 0))
+pub runs-ready : (s : Sender) (i : ℕ) → ValidSender s → i < s .count → Runs (s .fdt) (s .window) (getD (s .sessions) i (idle-of 0))
 runs-ready s i v h = stands-runs (s .fdt) (s .window) (getD (s .sessions) i (idle-of 0)) (v .holds) (v .narrow) (v .sessions i h)
 
 -- the session's slot after it is one of the list's
-pub ran-slot : (s : Sender) (i now : ℕ) → Valid s → i < s .count → ran-of (s .window) now (s .fdt) (getD (s .sessions) i (idle-of 0)) .session .slot < object-slots
+pub ran-slot : (s : Sender) (i now : ℕ) → ValidSender s → i < s .count → ran-of (s .window) now (s .fdt) (getD (s .sessions) i (idle-of 0)) .session .slot < object-slots
 ran-slot s i now v h =
     let x = getD (s .sessions) i (idle-of 0) in
     let r = ran-of (s .window) now (s .fdt) x in

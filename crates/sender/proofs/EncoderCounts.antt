@@ -1,27 +1,23 @@
 -- How many open blocks have no symbol left, and so how many leave before one is read.
 use mathlib.Core.Logic.{inr, ⊎-elim}
 use mathlib.Core.Path.{_≡_, refl, sym, _∙_, ap, subst}
-use mathlib.Core.Bool.{Bool, true, false, not}
+use mathlib.Core.Bool.{Bool, true, false}
 use mathlib.Core.Option.{some}
 use mathlib.Core.List.{List, [], _∷_, _++_}
 use Prim.Native.Nat.{ℕ, zero, suc, _+_, _≤_, _<_}
 use native.Mathlib.Omega.{arith}
-use lib.Dec.{ltb}
-use borrow.Author.Tests.{lt-leb, not-false}
+use borrow.Author.Tests.{lt-leb}
 use lib.ListN.{length, take}
 use Rattle.sizes.specs.Words.{if_then_else_, at, cut, one-if, tally}
-use Rattle.sizes.specs.Limits.{most-blocks}
-use Rattle.sizes.specs.Partition.{blocks-of, symbols-in}
+use Rattle.sizes.specs.Partition.{symbols-in}
 use Rattle.sizes.specs.declared.numbers.Sbn.{Sbn}
 use Rattle.sizes.specs.declared.partition.Partition.{Partition}
-use Rattle.sizes.proofs.Tests.{none≢some, or-left}
+use Rattle.sizes.proofs.Tests.{none≢some, if-on}
 use Rattle.sizes.proofs.Arithmetic.{below-or}
 use Rattle.sizes.proofs.Tables.{tally-le}
 use Rattle.sizes.proofs.PartitionLaws.{parted, empty-exactly}
-use Rattle.lifecycle.specs.Setup.{bad-blocks, sound-sizes}
-use Rattle.lifecycle.proofs.SetupLaws.{sizes-told}
-use Rattle.lifecycle.proofs.FdtFacts.{if-on}
-use Rattle.sender.specs.EncoderCalls.{opened-blocks, is-empty, Sound, Valid, has-room, one-opened, filled-of, place-of, stuck, without-of, drained-count, settled, ready-of}
+use Rattle.lifecycle.proofs.SetupLaws.{blocks-told}
+use Rattle.sender.specs.EncoderCalls.{opened-blocks, is-empty, Sound, ValidEncoder, has-room, one-opened, filled-of, place-to-visit, stuck, without-of, drained-count, settled, ready-of}
 use Rattle.sender.specs.declared.blockencoder.Content.{Content}
 use Rattle.sender.specs.declared.blockencoder.BlockEncoder.{BlockEncoder}
 use Rattle.sender.proofs.EncoderLaws.{room-told, filled-keeps, valid-one, valid-filled, place-inside, valid-without}
@@ -43,24 +39,23 @@ module _ {A : Type 0} (p : A → Bool) where
 -- ---- a block of the object has at least one symbol
 
 pub some-symbol : (c : Content) → Sound c → (k : Sbn) → k .0 < c .partition .blocks → 1 ≤ symbols-in (c .partition) k
-unfolding bad-blocks
 some-symbol c s k = subst (λ (p : Partition). k .0 < p .blocks → 1 ≤ symbols-in p k) (sym (s .cut)) (λ h.
     let z = c .sizes in
     let l = c .part .size in
-    let t = sizes-told z (not-false (sound-sizes z) (or-left (not (sound-sizes z)) (ltb most-blocks (blocks-of z l .blocks)) (s .sizes))) in
+    let t = blocks-told z l (s .sizes) .sizes in
     let l0 : 0 < l = ⊎-elim (λ g. g) (λ g. absurd (omega (arith, empty-exactly (z .b) l (z .e) .1 (inr (inr (omega arith))) .blocks))) (below-or 0 l) in
     parted (z .b) l (z .e) (t .block .0) (t .symbol .0) .none-empty l0 k)
 
 -- ---- the drained blocks among the open ones
 
-pub count-most : (x : BlockEncoder) → Valid x → drained-count x ≤ length (opened-blocks x)
+pub count-most : (x : BlockEncoder) → ValidEncoder x → drained-count x ≤ length (opened-blocks x)
 count-most x v =
     let a = tally-le (is-empty (x .content .partition)) (take (x .filled) (x .window)) in
     let b = taken-count x v in
     let c = open-count x v in omega arith
 
 -- a block that is opened is not drained
-pub count-one : (x : BlockEncoder) → Valid x → has-room x ≡ true → drained-count (one-opened x) ≡ drained-count x
+pub count-one : (x : BlockEncoder) → ValidEncoder x → has-room x ≡ true → drained-count (one-opened x) ≡ drained-count x
 unfolding one-opened is-empty
 count-one x v e =
     let p = x .content .partition in
@@ -70,30 +65,30 @@ count-one x v e =
     let c = ap one-if (lt-leb (symbols-in p (x .next)) 0 (some-symbol (x .content) (v .content) (x .next) (room-told x e .next))) in
     omega arith
 
-pub count-filled : (x : BlockEncoder) → Valid x → drained-count (filled-of x) ≡ drained-count x
-count-filled x v = filled-keeps (λ y. Valid y × (drained-count y ≡ drained-count x)) (λ y e h. (valid-one y (h .0) e, count-one y (h .0) e ∙ h .1)) x (v, refl) .1
+pub count-filled : (x : BlockEncoder) → ValidEncoder x → drained-count (filled-of x) ≡ drained-count x
+count-filled x v = filled-keeps (λ y. ValidEncoder y × (drained-count y ≡ drained-count x)) (λ y e h. (valid-one y (h .0) e, count-one y (h .0) e ∙ h .1)) x (v, refl) .1
 
 -- a drained block that leaves is one less
-pub count-without : (x : BlockEncoder) → Valid x → stuck x ≡ true → drained-count x ≡ suc (drained-count (without-of x))
+pub count-without : (x : BlockEncoder) → ValidEncoder x → stuck x ≡ true → drained-count x ≡ suc (drained-count (without-of x))
 unfolding without-of
 count-without x v e =
     let p = x .content .partition in
     let h = stuck-some x e in
     let l = take (x .filled) (x .window) in
-    let a = tally-cut (is-empty p) l (place-of x) (visited x) (taken-at x v (place-of x) (place-inside x h)) in
+    let a = tally-cut (is-empty p) l (place-to-visit x) (visited x) (taken-at x v (place-to-visit x) (place-inside x h)) in
     let b = ap one-if (stuck-visited x e) in
     let c = ap (tally (is-empty p)) (without-taken x v h) in
     omega arith
 
-pub count-less : (x : BlockEncoder) → Valid x → stuck x ≡ true → drained-count x ≡ suc (drained-count (filled-of (without-of x)))
+pub count-less : (x : BlockEncoder) → ValidEncoder x → stuck x ≡ true → drained-count x ≡ suc (drained-count (filled-of (without-of x)))
 count-less x v e = count-without x v e ∙ ap suc (sym (count-filled (without-of x) (valid-without x v (stuck-some x e))))
 
 -- ---- drained blocks leave
 
-pub valid-next : (x : BlockEncoder) → Valid x → stuck x ≡ true → Valid (filled-of (without-of x))
+pub valid-next : (x : BlockEncoder) → ValidEncoder x → stuck x ≡ true → ValidEncoder (filled-of (without-of x))
 valid-next x v e = valid-filled (without-of x) (valid-without x v (stuck-some x e))
 
-pub settled-more : (x : BlockEncoder) → Valid x → stuck x ≡ true → settled (drained-count x) x ≡ settled (drained-count (filled-of (without-of x))) (filled-of (without-of x))
+pub settled-more : (x : BlockEncoder) → ValidEncoder x → stuck x ≡ true → settled (drained-count x) x ≡ settled (drained-count (filled-of (without-of x))) (filled-of (without-of x))
 settled-more x v e =
     let y = filled-of (without-of x) in
     ap (λ n. settled n x) (count-less x v e) ∙ ap (λ b. if b then settled (drained-count y) y else x) e
@@ -107,14 +102,14 @@ pub settled-keeps : (P : BlockEncoder → Type 0) → ((x : BlockEncoder) → st
 settled-keeps P step zero x p = p
 settled-keeps P step (suc n) x p = if-on P (stuck x) (λ e. settled-keeps P step n (filled-of (without-of x)) (step x e p)) (λ e. p)
 
-pub valid-settled : (n : ℕ) (x : BlockEncoder) → Valid x → Valid (settled n x)
-valid-settled = settled-keeps Valid (λ x e v. valid-next x v e)
+pub valid-settled : (n : ℕ) (x : BlockEncoder) → ValidEncoder x → ValidEncoder (settled n x)
+valid-settled = settled-keeps ValidEncoder (λ x e v. valid-next x v e)
 
 -- and the block to visit then has a symbol left
-pub settled-free : (x : BlockEncoder) → Valid x → stuck (settled (drained-count x) x) ≡ false
+pub settled-free : (x : BlockEncoder) → ValidEncoder x → stuck (settled (drained-count x) x) ≡ false
 settled-free x v = go (drained-count x) x v refl
   where
-    go : (n : ℕ) (x : BlockEncoder) → Valid x → n ≡ drained-count x → stuck (settled n x) ≡ false
+    go : (n : ℕ) (x : BlockEncoder) → ValidEncoder x → n ≡ drained-count x → stuck (settled n x) ≡ false
     go zero x v h = if-false (stuck x) (λ e. let c = count-less x v e in absurd (omega arith))
       where
         if-false : (b : Bool) → (b ≡ true → ⊥) → b ≡ false
@@ -156,10 +151,10 @@ ready-kept x = settled-keeps (Kept x) (λ y e k. kept-filled x (without-of y) (k
 pub ready-content : (x : BlockEncoder) → ready-of x .content ≡ x .content
 ready-content x = ready-kept x .content
 
-pub valid-ready : (x : BlockEncoder) → Valid x → Valid (ready-of x)
+pub valid-ready : (x : BlockEncoder) → ValidEncoder x → ValidEncoder (ready-of x)
 unfolding ready-of
 valid-ready x v = valid-settled (drained-count (filled-of x)) (filled-of x) (valid-filled x v)
 
-pub ready-free : (x : BlockEncoder) → Valid x → stuck (ready-of x) ≡ false
+pub ready-free : (x : BlockEncoder) → ValidEncoder x → stuck (ready-of x) ≡ false
 unfolding ready-of
 ready-free x v = settled-free (filled-of x) (valid-filled x v)

@@ -14,7 +14,7 @@ use Rattle.sizes.specs.Partition.{esi}
 use Rattle.sizes.proofs.Tests.{Tested, pass, fail, tested, and-left, and-right}
 use Rattle.sizes.proofs.Arithmetic.{below-or}
 use Rattle.sizes.proofs.Arrays.{getD-shut, length-shut}
-use Rattle.sender.specs.EncoderCalls.{Inside, Valid, no-open, has-room, one-opened, opened-of, filled-of, place-of, without-of}
+use Rattle.sender.specs.EncoderCalls.{Inside, ValidEncoder, no-open, has-room, one-opened, blocks-opened, filled-of, place-to-visit, without-of}
 use Rattle.sender.specs.declared.block.Open.{Open}
 use Rattle.sender.specs.declared.blockencoder.Content.{Content}
 use Rattle.sender.specs.declared.blockencoder.BlockEncoder.{BlockEncoder}
@@ -68,14 +68,14 @@ missing-room x n e = (λ i. lt-ltb (x .filled) (x .width) (omega arith) i && lt-
 
 pub filled-more : (x : BlockEncoder) → has-room x ≡ true → filled-of (one-opened x) ≡ filled-of x
 unfolding filled-of
-filled-more x e = sym (ap (λ n. opened-of n x) (missing-less x e))
+filled-more x e = sym (ap (λ n. blocks-opened n x) (missing-less x e))
 
 pub filled-none : (x : BlockEncoder) → has-room x ≡ false → filled-of x ≡ x
 unfolding filled-of
-filled-none x e = ap (λ n. opened-of n x) (room-none x e)
+filled-none x e = ap (λ n. blocks-opened n x) (room-none x e)
 
 -- what each opening keeps holds of the filled window
-opened-keeps : (P : BlockEncoder → Type 0) → ((x : BlockEncoder) → has-room x ≡ true → P x → P (one-opened x)) → (n : ℕ) (x : BlockEncoder) → n ≡ missing x → P x → P (opened-of n x)
+opened-keeps : (P : BlockEncoder → Type 0) → ((x : BlockEncoder) → has-room x ≡ true → P x → P (one-opened x)) → (n : ℕ) (x : BlockEncoder) → n ≡ missing x → P x → P (blocks-opened n x)
 opened-keeps P step zero x e p = p
 opened-keeps P step (suc n) x e p =
     let r = missing-room x n e in
@@ -96,7 +96,7 @@ inside-set c l k o inn new i old = go (tested (eqb i k))
     go (pass q) = subst (λ j. Inside c (getD (set l k o) j no-open)) (sym (eqb-true i k q)) (subst (Inside c) (sym (getD-set-same l k o no-open inn)) new)
     go (fail q) = let n = eqb-false i k q in subst (Inside c) (sym (getD-set-other l k i o no-open n)) (old n)
 
-pub valid-one : (x : BlockEncoder) → Valid x → has-room x ≡ true → Valid (one-opened x)
+pub valid-one : (x : BlockEncoder) → ValidEncoder x → has-room x ≡ true → ValidEncoder (one-opened x)
 unfolding one-opened
 valid-one x v e =
     let r = room-told x e in
@@ -111,12 +111,12 @@ valid-one x v e =
       clear = λ i h. getD-set-other (x .window) (x .filled) i o no-open (λ q. absurd (omega arith)) ∙ v .clear i (omega arith);
     }
 
-pub valid-filled : (x : BlockEncoder) → Valid x → Valid (filled-of x)
-valid-filled = filled-keeps Valid (λ x e v. valid-one x v e)
+pub valid-filled : (x : BlockEncoder) → ValidEncoder x → ValidEncoder (filled-of x)
+valid-filled = filled-keeps ValidEncoder (λ x e v. valid-one x v e)
 
 -- the place to visit is an open block's, where there is one
-pub place-inside : (x : BlockEncoder) → 0 < x .filled → place-of x < x .filled
-unfolding place-of
+pub place-inside : (x : BlockEncoder) → 0 < x .filled → place-to-visit x < x .filled
+unfolding place-to-visit
 place-inside x h = go (tested (ltb (x .index) (x .filled)))
   where
     go : Tested (ltb (x .index) (x .filled)) → (if ltb (x .index) (x .filled) then x .index else 0) < x .filled
@@ -124,8 +124,8 @@ place-inside x h = go (tested (ltb (x .index) (x .filled)))
     go (fail e) = rw e h
 
 -- and a place of the window in any case
-pub place-low : (x : BlockEncoder) → Valid x → place-of x < 16
-unfolding place-of
+pub place-low : (x : BlockEncoder) → ValidEncoder x → place-to-visit x < 16
+unfolding place-to-visit
 place-low x v = go (tested (ltb (x .index) (x .filled)))
   where
     go : Tested (ltb (x .index) (x .filled)) → (if ltb (x .index) (x .filled) then x .index else 0) < 16
@@ -140,20 +140,20 @@ getD-before z (a ∷ l) zero j h = absurd (omega arith)
 getD-before z (a ∷ l) (suc i) zero h = refl
 getD-before z (a ∷ l) (suc i) (suc j) h = getD-before z l i j (omega arith)
 
-pub valid-without : (x : BlockEncoder) → Valid x → 0 < x .filled → Valid (without-of x)
+pub valid-without : (x : BlockEncoder) → ValidEncoder x → 0 < x .filled → ValidEncoder (without-of x)
 unfolding without-of
 valid-without x v h =
     let k = place-inside x h in
-    let inn : place-of x < length (x .window) = omega arith in
+    let inn : place-to-visit x < length (x .window) = omega arith in
     record {
       content = v .content;
       narrow = v .narrow;
       filled = omega arith;
       next = v .next;
-      long = length-shut no-open (x .window) (place-of x) inn ∙ v .long;
+      long = length-shut no-open (x .window) (place-to-visit x) inn ∙ v .long;
       each = λ i g. ⊎-elim
-          (λ (q : i < place-of x). subst (Inside (x .content)) (sym (getD-before no-open (x .window) (place-of x) i q)) (v .each i (omega arith)))
-          (λ (q : place-of x ≤ i). subst (Inside (x .content)) (sym (getD-shut no-open (x .window) (place-of x) i q)) (v .each (suc i) (omega arith)))
-          (below-or i (place-of x));
-      clear = λ i g. getD-shut no-open (x .window) (place-of x) i (omega arith) ∙ v .clear (suc i) (omega arith);
+          (λ (q : i < place-to-visit x). subst (Inside (x .content)) (sym (getD-before no-open (x .window) (place-to-visit x) i q)) (v .each i (omega arith)))
+          (λ (q : place-to-visit x ≤ i). subst (Inside (x .content)) (sym (getD-shut no-open (x .window) (place-to-visit x) i q)) (v .each (suc i) (omega arith)))
+          (below-or i (place-to-visit x));
+      clear = λ i g. getD-shut no-open (x .window) (place-to-visit x) i (omega arith) ∙ v .clear (suc i) (omega arith);
     }

@@ -10,13 +10,12 @@ use borrow.Author.Tests.{eqb-true, eqb-false, not-false}
 use Rattle.sizes.specs.Limits.{largest-window}
 use Rattle.sizes.specs.Partition.{symbols-of}
 use Rattle.sizes.specs.declared.partition.Sizes.{Sizes}
-use Rattle.sizes.proofs.Tests.{or-right}
+use Rattle.sizes.proofs.Tests.{or-right, if-on}
 use Rattle.sizes.proofs.Arithmetic.{one-more}
 use Rattle.sizes.proofs.PartitionLaws.{parted-bytes}
 use Rattle.lifecycle.specs.declared.parts.Part.{Part}
-use Rattle.lifecycle.proofs.FdtFacts.{if-on}
 use Rattle.definition.specs.Encoder as Def
-use Rattle.sender.specs.EncoderCalls.{Sound, Valid, no-open, encoder-of, new-of, place-of, stuck, ready-of, offset-of, visit-of, emptied-of, stopping-of, emitted-of, read-of}
+use Rattle.sender.specs.EncoderCalls.{Sound, ValidEncoder, no-open, encoder-of, new-of, place-to-visit, stuck, ready-of, offset-of, visit-of, emptied-of, stopping-of, emitted-of, read-of}
 use Rattle.sender.specs.EncoderPromises.{OfBlock, Shown, Carried, named}
 use Rattle.sender.specs.declared.blockencoder.Content.{Content}
 use Rattle.sender.specs.declared.blockencoder.BlockEncoder.{BlockEncoder}
@@ -56,23 +55,23 @@ emptied-shows x = if-on (Shows (x .content)) (x .begun || not (eqb (x .content .
       shown = sym (ap (symbol-or s) e);
     }))
 
-visit-shows : (force : Bool) (x : BlockEncoder) → Valid x → 0 < x .filled → stuck x ≡ false → Shown (x .content) (visit-of force x .symbol)
+visit-shows : (force : Bool) (x : BlockEncoder) → ValidEncoder x → 0 < x .filled → stuck x ≡ false → Shown (x .content) (visit-of force x .symbol)
 unfolding visit-of
 visit-shows force x v h e = Shown.of-block (record {
-  inside = v .each (place-of x) (place-inside x h);
+  inside = v .each (place-to-visit x) (place-inside x h);
   left = free-visited x h e;
   symbols = refl;
   payload = refl;
   transfer-length = refl;
 })
 
-emitted-shows : (force : Bool) (x : BlockEncoder) → Valid x → stuck x ≡ false → Shows (x .content) (emitted-of force x)
+emitted-shows : (force : Bool) (x : BlockEncoder) → ValidEncoder x → stuck x ≡ false → Shows (x .content) (emitted-of force x)
 unfolding emitted-of
 emitted-shows force x v f = if-on (Shows (x .content)) (eqb (x .filled) 0)
     (λ h. emptied-shows x)
     (λ h s e. subst (Shown (x .content)) (ap (symbol-or s) e) (visit-shows force x v (let n = eqb-false (x .filled) 0 h in omega arith) f))
 
-pub read-shows : (force : Bool) (x : BlockEncoder) → Valid x → Shows (x .content) (read-of force x)
+pub read-shows : (force : Bool) (x : BlockEncoder) → ValidEncoder x → Shows (x .content) (read-of force x)
 unfolding read-of
 read-shows force x v = if-on (Shows (x .content)) (x .stopped)
     (λ h. silent (x .content) x)
@@ -129,7 +128,7 @@ module _ (c : Content) (k : Sound c) (s : Symbol) where
 
 -- ---- a new encoder
 
-pub new-sound : (c : Part) (z : Sizes) (w : ℕ) (closable : Bool) → Sound (new-of c z w closable .content) → w ≤ largest-window → Valid (new-of c z w closable)
+pub new-sound : (c : Part) (z : Sizes) (w : ℕ) (closable : Bool) → Sound (new-of c z w closable .content) → w ≤ largest-window → ValidEncoder (new-of c z w closable)
 unfolding new-of
 new-sound c z w closable s n =
     record {

@@ -12,10 +12,9 @@ use Rattle.sizes.specs.Words.{if_then_else_, maybe, at, all}
 use Rattle.sizes.specs.Limits.{largest-block}
 use Rattle.sizes.specs.Partition.{blocks-of, symbols-in}
 use Rattle.sizes.specs.declared.partition.Partition.{Partition}
-use Rattle.sizes.proofs.Tests.{Tested, pass, fail, tested, and-left, and-right}
-use Rattle.lifecycle.proofs.FdtFacts.{if-on}
+use Rattle.sizes.proofs.Tests.{Tested, pass, fail, tested, and-left, and-right, if-on}
 use Rattle.definition.specs.Encoder as Def
-use Rattle.sender.specs.EncoderCalls.{open-said, opened-blocks, encoder-of, is-empty, Valid, has-room, filled-of, place-of, stuck, without-of, drained-count, settled, ready-of, last-of, next-symbol, closes-of, shown-of, visit-of, goes-on, midway, glance-of, moved-of, emptied-of, stopping-of, emitted-of, read-of, read-said, Reads, Steps}
+use Rattle.sender.specs.EncoderCalls.{open-said, opened-blocks, encoder-of, is-empty, ValidEncoder, has-room, filled-of, place-to-visit, stuck, without-of, drained-count, settled, ready-of, last-of, next-symbol, closes-of, shown-of, visit-of, goes-on, midway, glance-of, moved-of, emptied-of, stopping-of, emitted-of, read-of, read-said, Reads, Steps}
 use Rattle.sender.specs.declared.block.Open.{Open}
 use Rattle.sender.specs.declared.blockencoder.Content.{Content}
 use Rattle.sender.specs.declared.blockencoder.BlockEncoder.{BlockEncoder}
@@ -68,7 +67,7 @@ module _ (k : ℕ) (force : Bool) where
   abbrev Turns : BlockEncoder → Type 0
   Turns x = turn (x .width) (x .content) (encoder-of x) ≡ said (emitted-of force (settled (drained-count x) x))
 
-  module _ (x : BlockEncoder) (v : Valid x) where
+  module _ (x : BlockEncoder) (v : ValidEncoder x) where
     turn-none : eqb (x .filled) 0 ≡ true → Turns x
     turn-none e =
         let z = eqb-true (x .filled) 0 e in
@@ -79,12 +78,12 @@ module _ (k : ℕ) (force : Bool) where
 
     module _ (h : 0 < x .filled) where
       -- the definition looks at the same block, and sees it drained where the encoder does
-      turn-some : (b : Bool) → is-empty (x .content .partition) (visited x) ≡ b → turn (x .width) (x .content) (encoder-of x) ≡ chosen (x .width) (x .content) (encoder-of x) (place-of x) (open-said (visited x)) b
+      turn-some : (b : Bool) → is-empty (x .content .partition) (visited x) ≡ b → turn (x .width) (x .content) (encoder-of x) ≡ chosen (x .width) (x .content) (encoder-of x) (place-to-visit x) (open-said (visited x)) b
       turn-some b e =
           ap (λ i. looked (x .width) (x .content) (encoder-of x) i (at (opened-blocks x) i)) (sym (place-view x v))
-          ∙ ap (looked (x .width) (x .content) (encoder-of x) (place-of x)) (visited-view x v h)
-          ∙ ap (λ (p : Partition). chosen (x .width) (x .content) (encoder-of x) (place-of x) (open-said (visited x)) (Def.drained p (open-said (visited x)))) (sym (v .content .cut))
-          ∙ ap (chosen (x .width) (x .content) (encoder-of x) (place-of x) (open-said (visited x))) (drained-view (x .content .partition) (visited x) ∙ e)
+          ∙ ap (looked (x .width) (x .content) (encoder-of x) (place-to-visit x)) (visited-view x v h)
+          ∙ ap (λ (p : Partition). chosen (x .width) (x .content) (encoder-of x) (place-to-visit x) (open-said (visited x)) (Def.drained p (open-said (visited x)))) (sym (v .content .cut))
+          ∙ ap (chosen (x .width) (x .content) (encoder-of x) (place-to-visit x) (open-said (visited x))) (drained-view (x .content .partition) (visited x) ∙ e)
 
       turn-free : stuck x ≡ false → Turns x
       turn-free e =
@@ -93,7 +92,7 @@ module _ (k : ℕ) (force : Bool) where
           ∙ ap said (sym (emitted-some force x (ne-eqb (x .filled) 0 (λ q. absurd (omega arith)))))
           ∙ ap (λ y. said (emitted-of force y)) (sym (settled-end x e (drained-count x)))
 
-      turn-stuck : stuck x ≡ true → drained-count x ≤ k → ((y : BlockEncoder) → Valid y → drained-count y < k → Visits y) → Turns x
+      turn-stuck : stuck x ≡ true → drained-count x ≤ k → ((y : BlockEncoder) → ValidEncoder y → drained-count y < k → Visits y) → Turns x
       unfolding without-of ready-of
       turn-stuck e g again =
           turn-some true (stuck-visited x e)
@@ -101,7 +100,7 @@ module _ (k : ℕ) (force : Bool) where
           ∙ again (without-of x) (valid-without x v h) (let c = count-without x v e in omega arith)
           ∙ ap (λ y. said (emitted-of force y)) (sym (settled-more x v e))
 
-    turn-view : drained-count x ≤ k → ((y : BlockEncoder) → Valid y → drained-count y < k → Visits y) → Turns x
+    turn-view : drained-count x ≤ k → ((y : BlockEncoder) → ValidEncoder y → drained-count y < k → Visits y) → Turns x
     turn-view g again = go (tested (eqb (x .filled) 0)) (tested (stuck x))
       where
         go : Tested (eqb (x .filled) 0) → Tested (stuck x) → Turns x
@@ -111,7 +110,7 @@ module _ (k : ℕ) (force : Bool) where
 
 -- ---- the whole visit
 
-visit-all : (k : ℕ) (force : Bool) (x : BlockEncoder) → Valid x → drained-count x < k → Visits k force x
+visit-all : (k : ℕ) (force : Bool) (x : BlockEncoder) → ValidEncoder x → drained-count x < k → Visits k force x
 unfolding Def.visit ready-of
 visit-all zero force x v h = absurd (omega arith)
 visit-all (suc k) force x v h =
@@ -123,7 +122,7 @@ visit-all (suc k) force x v h =
     ∙ turn-view k force y (valid-filled x v) (let c = count-filled x v in omega arith) (λ z u g. visit-all k force z u g)
 
 -- a turn for each drained block and one more are enough
-pub visit-view : (force : Bool) (x : BlockEncoder) → Valid x → (k : ℕ) → drained-count x ≤ k
+pub visit-view : (force : Bool) (x : BlockEncoder) → ValidEncoder x → (k : ℕ) → drained-count x ≤ k
     → Def.visit (suc k) (x .width) (x .content .part) (x .content .sizes) force (encoder-of x) ≡ said (emitted-of force (ready-of x))
 visit-view force x v k h = visit-all (suc k) force x v (omega arith)
 
@@ -133,9 +132,9 @@ visit-view force x v k h = visit-all (suc k) force x v (omega arith)
 record Goes (x y : BlockEncoder) : Type 0 where
   content : y .content ≡ x .content
   width : y .width ≡ x .width
-  valid : Valid y
+  valid : ValidEncoder y
 
-emitted-goes : (force : Bool) (x : BlockEncoder) → Valid x → stuck x ≡ false → Goes x (emitted-of force x .encoder)
+emitted-goes : (force : Bool) (x : BlockEncoder) → ValidEncoder x → stuck x ≡ false → Goes x (emitted-of force x .encoder)
 unfolding emitted-of emptied-of moved-of
 emitted-goes force x v s = if-on (λ (r : Read). Goes x (r .encoder)) (eqb (x .filled) 0)
     (λ e. if-on (λ (r : Read). Goes x (r .encoder)) (x .begun || not (eqb (x .content .part .size) 0))
@@ -154,7 +153,7 @@ module _ (force : Bool) (x : BlockEncoder) where
   read-begins e = rw e
 
   -- the encoder's read is the definition's, and the encoder stays one of its object
-  pub read-means : Valid x → Reads force x (read-of force x)
+  pub read-means : ValidEncoder x → Reads force x (read-of force x)
   unfolding read-of
   read-means v = if-on (Reads force x) (x .stopped)
       (λ e. record {
@@ -167,7 +166,7 @@ module _ (force : Bool) (x : BlockEncoder) where
       })
       (λ e.
       let y = stopping-of force x in
-      let u : Valid y = valid-flags x v (x .begun) force in
+      let u : ValidEncoder y = valid-flags x v (x .begun) force in
       let g = emitted-goes force (ready-of y) (valid-ready y u) (ready-free y u) in
       let m = read-begins e ∙ visit-view force y u (length (opened-blocks x)) (count-most x v) in
       record {
@@ -189,11 +188,11 @@ module _ (force : Bool) (x : BlockEncoder) where
   read-goes e = rw e
 
 -- the block that is read is an open one, and its next symbol's number fits
-pub visit-fits : (force : Bool) (x : BlockEncoder) → Valid x → 0 < x .filled → stuck x ≡ false → (visit-of force x .place < x .filled) × (visit-of force x .symbol .esi .0 < largest-block)
+pub visit-fits : (force : Bool) (x : BlockEncoder) → ValidEncoder x → 0 < x .filled → stuck x ≡ false → (visit-of force x .place < x .filled) × (visit-of force x .symbol .esi .0 < largest-block)
 unfolding visit-of
 visit-fits force x v h e =
     let i = place-inside x h in
-    let a = v .each (place-of x) i in
+    let a = v .each (place-to-visit x) i in
     (i, omega (arith, left (x .content) (v .content) (visited x) a (free-visited x h e), few (x .content) (v .content) (visited x) a))
 
 -- ---- a read in the middle of a transfer
@@ -235,7 +234,7 @@ all-but ok (b ∷ l) zero i a h g e = absurd (omega arith)
 all-but ok (b ∷ l) (suc n) zero a h g e = rw e
 all-but ok (b ∷ l) (suc n) (suc i) a h g e = rw (all-but ok l n i a (omega arith) (omega arith) e, and-false)
 
-module _ (x : BlockEncoder) (v : Valid x) (m : Midway x) where
+module _ (x : BlockEncoder) (v : ValidEncoder x) (m : Midway x) where
   abbrev p : Partition
   p = x .content .partition
 
@@ -243,21 +242,21 @@ module _ (x : BlockEncoder) (v : Valid x) (m : Midway x) where
   o = visited x
 
   -- something remains after the symbol
-  remains : last-of x (place-of x) (next-symbol o) ≡ false
+  remains : last-of x (place-to-visit x) (next-symbol o) ≡ false
   unfolding last-of is-empty
   remains = go (tested (ltb (x .next .0) (p .blocks)))
     where
-      go : Tested (ltb (x .next .0) (p .blocks)) → last-of x (place-of x) (next-symbol o) ≡ false
+      go : Tested (ltb (x .next .0) (p .blocks)) → last-of x (place-to-visit x) (next-symbol o) ≡ false
       go (pass e) = rw (lt-leb (p .blocks) (x .next .0) (ltb-true (x .next .0) (p .blocks) e))
       go (fail e) =
           let h = place-inside x (m .filled) in
           let more = ltb-true (o .esi .0 + 1) (symbols-in p (o .sbn)) (rw e at (m .more)) in
           let full : is-empty p (next-symbol o) ≡ false = lt-leb (symbols-in p (o .sbn)) (o .esi .0 + 1) more in
-          let inn : place-of x < length (x .window) = let a = v .filled in let b = v .narrow in let d = v .long in omega arith in
-          rw (all-but (is-empty p) (x .window) (x .filled) (place-of x) (next-symbol o) h inn full, and-false)
+          let inn : place-to-visit x < length (x .window) = let a = v .filled in let b = v .narrow in let d = v .long in omega arith in
+          rw (all-but (is-empty p) (x .window) (x .filled) (place-to-visit x) (next-symbol o) h inn full, and-false)
 
   -- so it closes nothing
-  stays-open : closes-of false x (place-of x) o ≡ false
+  stays-open : closes-of false x (place-to-visit x) o ≡ false
   stays-open = rw (remains, and-false)
 
   -- nothing is opened or removed
@@ -268,7 +267,7 @@ module _ (x : BlockEncoder) (v : Valid x) (m : Midway x) where
   midway-read : read-of false x ≡ record { answer = One (visit-of false x .symbol); encoder = moved-of x (visit-of false x) }
   midway-read = read-goes false x (m .going) ∙ ap (λ b. emitted-of false (ready-of (stopping-of b x))) (sym (m .going)) ∙ ap (emitted-of false) ready-same ∙ emitted-some false x (ne-eqb (x .filled) 0 (λ q. let h = m .filled in absurd (omega arith)))
 
-  pub midway-visit : visit-of false x ≡ shown-of (x .content) (place-of x) o false
+  pub midway-visit : visit-of false x ≡ shown-of (x .content) (place-to-visit x) o false
   unfolding visit-of
   midway-visit = rw stays-open
 
@@ -277,7 +276,7 @@ module _ (x : BlockEncoder) (v : Valid x) (m : Midway x) where
   midway-steps = let f = visit-fits false x v (m .filled) (m .free) in record { read = midway-read; begun = m .begun; place = f .0; block = refl; symbol = f .1; close = stays-open }
 
 -- what a glance tells of the read
-pub glance-steps : (x : BlockEncoder) → Valid x → (s : Visit) → glance-of x ≡ GlanceV.One s → Steps x s
+pub glance-steps : (x : BlockEncoder) → ValidEncoder x → (s : Visit) → glance-of x ≡ GlanceV.One s → Steps x s
 unfolding glance-of
 glance-steps x v s = if-on (λ g. g ≡ GlanceV.One s → Steps x s) (midway x)
     (λ e q. subst (Steps x) (cc) (midway-steps x v (midway-told x e)))

@@ -18,7 +18,7 @@ use Rattle.sizes.proofs.Lists.{map-set, map-append, map-cut, at-map}
 use Rattle.sizes.proofs.Arrays.{take-shut}
 use Rattle.sizes.proofs.Collects.{at-inside}
 use Rattle.definition.specs.Encoder as Def
-use Rattle.sender.specs.EncoderCalls.{open-said, opened-blocks, encoder-of, symbol-said, emitted-said, no-open, open-at, is-empty, Valid, has-room, one-opened, opened-of, filled-of, place-of, stuck, without-of, offset-of, last-of, next-symbol, visit-of, moved-of, emptied-of}
+use Rattle.sender.specs.EncoderCalls.{open-said, opened-blocks, encoder-of, symbol-said, emitted-said, no-open, open-at, is-empty, ValidEncoder, has-room, one-opened, blocks-opened, filled-of, place-to-visit, stuck, without-of, offset-of, last-of, next-symbol, visit-of, moved-of, emptied-of}
 use Rattle.sender.specs.declared.block.Open.{Open}
 use Rattle.sender.specs.declared.blockencoder.BlockEncoder.{BlockEncoder}
 use Rattle.sender.specs.declared.blockencoder.Read.{Read}
@@ -26,7 +26,7 @@ use Rattle.sender.proofs.EncoderLaws.{room-told, missing, missing-less,
 
 -- ---- the open blocks
 
-module _ (x : BlockEncoder) (v : Valid x) where
+module _ (x : BlockEncoder) (v : ValidEncoder x) where
   -- as many are open as the record says
   pub taken-count : length (take (x .filled) (x .window)) ≡ x .filled
   taken-count = length-take-le (x .filled) (x .window) (omega arith)
@@ -41,8 +41,8 @@ module _ (x : BlockEncoder) (v : Valid x) where
   open-view i h = at-map open-said (take (x .filled) (x .window)) i ∙ ap (over open-said) (taken-at i h)
 
   -- the place to visit is the definition's
-  pub place-view : place-of x ≡ Def.wrapped (encoder-of x)
-  unfolding place-of Def.wrapped
+  pub place-view : place-to-visit x ≡ Def.wrapped (encoder-of x)
+  unfolding place-to-visit Def.wrapped
   place-view = ap (λ n. if ltb (x .index) n then x .index else 0) (sym open-count)
 
 -- with no block open there is none at any place
@@ -63,7 +63,7 @@ new-open x = record { sbn = x .next; esi = esi 0 }
 abbrev seen : BlockEncoder → ℕ → List Def.Open → Def.Encoder
 seen x n l = record { closable = x .closable; next = sbn n; window = l; index = x .index; begun = x .begun; stopped = x .stopped }
 
-module _ (x : BlockEncoder) (v : Valid x) (e : has-room x ≡ true) where
+module _ (x : BlockEncoder) (v : ValidEncoder x) (e : has-room x ≡ true) where
   pub one-taken : take (one-opened x .filled) (one-opened x .window) ≡ take (x .filled) (x .window) ++ (new-open x ∷ [])
   unfolding one-opened
   one-taken = rw (add-one (x .filled)) (take-suc-set (x .window) (x .filled) (new-open x) (let r = room-told x e in omega arith))
@@ -71,7 +71,7 @@ module _ (x : BlockEncoder) (v : Valid x) (e : has-room x ≡ true) where
   one-view : opened-blocks (one-opened x) ≡ opened-blocks x ++ (open-said (new-open x) ∷ [])
   one-view = ap (map open-said) one-taken ∙ map-append open-said (take (x .filled) (x .window)) (new-open x ∷ [])
 
-opened-view : (n : ℕ) (x : BlockEncoder) → Valid x → n ≡ missing x → encoder-of (opened-of n x) ≡ seen x (x .next .0 + n) (opened-blocks x ++ Def.opened (x .next .0) n)
+opened-view : (n : ℕ) (x : BlockEncoder) → ValidEncoder x → n ≡ missing x → encoder-of (blocks-opened n x) ≡ seen x (x .next .0 + n) (opened-blocks x ++ Def.opened (x .next .0) n)
 unfolding one-opened
 opened-view zero x v e = ap₂ (seen x) (omega arith) (sym (append-nil (opened-blocks x)))
 opened-view (suc n) x v e =
@@ -80,7 +80,7 @@ opened-view (suc n) x v e =
     opened-view n (one-opened x) (valid-one x v r) (omega arith)
     ∙ ap₂ (seen x) (omega arith) ((λ i. one-view x v r i ++ Def.opened (add-one (x .next .0) i) n) ∙ append-snoc (opened-blocks x) (open-said (new-open x)) (Def.opened (suc (x .next .0)) n))
 
-pub fill-view : (x : BlockEncoder) → Valid x → encoder-of (filled-of x) ≡ Def.fill (x .width) (x .content .partition) (encoder-of x)
+pub fill-view : (x : BlockEncoder) → ValidEncoder x → encoder-of (filled-of x) ≡ Def.fill (x .width) (x .content .partition) (encoder-of x)
 unfolding filled-of Def.fill
 fill-view x v =
     opened-view (missing x) x v refl
@@ -88,29 +88,29 @@ fill-view x v =
 
 -- ---- a drained block leaves
 
-module _ (x : BlockEncoder) (v : Valid x) (h : 0 < x .filled) where
-  pub without-taken : take (without-of x .filled) (without-of x .window) ≡ cut (take (x .filled) (x .window)) (place-of x)
+module _ (x : BlockEncoder) (v : ValidEncoder x) (h : 0 < x .filled) where
+  pub without-taken : take (without-of x .filled) (without-of x .window) ≡ cut (take (x .filled) (x .window)) (place-to-visit x)
   unfolding without-of
-  without-taken = take-shut no-open (x .window) (place-of x) (x .filled) (place-inside x h) (omega arith)
+  without-taken = take-shut no-open (x .window) (place-to-visit x) (x .filled) (place-inside x h) (omega arith)
 
-  pub without-view : encoder-of (without-of x) ≡ Def.without (encoder-of x) (place-of x)
+  pub without-view : encoder-of (without-of x) ≡ Def.without (encoder-of x) (place-to-visit x)
   unfolding without-of Def.without
   without-view =
-      ap (λ (l : List Def.Open). record { closable = x .closable; next = x .next; window = l; index = place-of x; begun = x .begun; stopped = x .stopped })
-      (ap (map open-said) without-taken ∙ map-cut open-said (take (x .filled) (x .window)) (place-of x))
+      ap (λ (l : List Def.Open). record { closable = x .closable; next = x .next; window = l; index = place-to-visit x; begun = x .begun; stopped = x .stopped })
+      (ap (map open-said) without-taken ∙ map-cut open-said (take (x .filled) (x .window)) (place-to-visit x))
 
 -- ---- a symbol is read
 
 -- the block to visit
 abbrev pub visited : BlockEncoder → Open
-visited x = open-at x (place-of x)
+visited x = open-at x (place-to-visit x)
 
-pub visited-view : (x : BlockEncoder) → Valid x → 0 < x .filled → at (opened-blocks x) (place-of x) ≡ some (open-said (visited x))
-visited-view x v h = open-view x v (place-of x) (place-inside x h)
+pub visited-view : (x : BlockEncoder) → ValidEncoder x → 0 < x .filled → at (opened-blocks x) (place-to-visit x) ≡ some (open-said (visited x))
+visited-view x v h = open-view x v (place-to-visit x) (place-inside x h)
 
 -- the encoder after its symbol, for the definition
 abbrev pub after : BlockEncoder → Def.Encoder
-after x = Def.advanced (encoder-of x) (place-of x) (open-said (visited x))
+after x = Def.advanced (encoder-of x) (place-to-visit x) (open-said (visited x))
 
 -- it has a symbol left exactly where the encoder is not stuck
 pub free-visited : (x : BlockEncoder) → 0 < x .filled → stuck x ≡ false → is-empty (x .content .partition) (visited x) ≡ false
@@ -133,18 +133,18 @@ all-map : {A B : Type 0} (ok : B → Bool) (f : A → B) (l : List A) → all ok
 all-map ok f [] = refl
 all-map ok f (a ∷ l) = ap (λ b. ok (f a) && b) (all-map ok f l)
 
-module _ (x : BlockEncoder) (v : Valid x) (h : 0 < x .filled) (force : Bool) where
-  moved-window : map open-said (take (x .filled) (set (x .window) (place-of x) (next-symbol (visited x)))) ≡ after x .window
+module _ (x : BlockEncoder) (v : ValidEncoder x) (h : 0 < x .filled) (force : Bool) where
+  moved-window : map open-said (take (x .filled) (set (x .window) (place-to-visit x) (next-symbol (visited x)))) ≡ after x .window
   unfolding Def.advanced
   moved-window =
       let o = visited x in
-      ap (map open-said) (take-set-lt (x .filled) (x .window) (place-of x) (next-symbol o) (place-inside x h))
-      ∙ map-set open-said (take (x .filled) (x .window)) (place-of x) (next-symbol o)
-      ∙ ap (λ n. set (opened-blocks x) (place-of x) (record { block = o .sbn; symbol = esi n })) (add-one (o .esi .0))
+      ap (map open-said) (take-set-lt (x .filled) (x .window) (place-to-visit x) (next-symbol o) (place-inside x h))
+      ∙ map-set open-said (take (x .filled) (x .window)) (place-to-visit x) (next-symbol o)
+      ∙ ap (λ n. set (opened-blocks x) (place-to-visit x) (record { block = o .sbn; symbol = esi n })) (add-one (o .esi .0))
 
   pub moved-view : encoder-of (moved-of x (visit-of force x)) ≡ after x
   unfolding moved-of visit-of Def.advanced
-  moved-view = λ i. record { closable = x .closable; next = x .next; window = moved-window i; index = add-one (place-of x) i; begun = true; stopped = x .stopped }
+  moved-view = λ i. record { closable = x .closable; next = x .next; window = moved-window i; index = add-one (place-to-visit x) i; begun = true; stopped = x .stopped }
 
   pub symbol-view : symbol-said (visit-of force x .symbol) ≡ Def.symbol-of (x .content .part) (x .content .sizes) force (open-said (visited x)) (after x)
   unfolding visit-of offset-of last-of is-empty Def.symbol-of Def.nothing-left Def.drained Def.advanced
@@ -162,15 +162,15 @@ module _ (x : BlockEncoder) (v : Valid x) (h : 0 < x .filled) (force : Bool) whe
             close = force || (x .closable && (leb (p .blocks) (x .next .0) && b));
           }
 
-      closes : all (is-empty (x .content .partition)) (take (x .filled) (set (x .window) (place-of x) (next-symbol (visited x)))) ≡ all (Def.drained (x .content .partition)) (after x .window)
+      closes : all (is-empty (x .content .partition)) (take (x .filled) (set (x .window) (place-to-visit x) (next-symbol (visited x)))) ≡ all (Def.drained (x .content .partition)) (after x .window)
       closes =
-          sym (all-map (Def.drained (x .content .partition)) open-said (take (x .filled) (set (x .window) (place-of x) (next-symbol (visited x)))))
+          sym (all-map (Def.drained (x .content .partition)) open-said (take (x .filled) (set (x .window) (place-to-visit x) (next-symbol (visited x)))))
           ∙ ap (all (Def.drained (x .content .partition))) moved-window
 
-  pub valid-moved : stuck x ≡ false → Valid (moved-of x (visit-of force x))
+  pub valid-moved : stuck x ≡ false → ValidEncoder (moved-of x (visit-of force x))
   unfolding moved-of visit-of is-empty
   valid-moved e =
-      let i = place-of x in
+      let i = place-to-visit x in
       let o = visited x in
       let k = place-inside x h in
       let more = leb-false (symbols-in (x .content .partition) (o .sbn)) (o .esi .0) (free-visited x h e) in
@@ -199,5 +199,5 @@ unfolding emptied-of Def.emptied
 emptied-view x = if-both said (x .begun || not (eqb (x .content .part .size) 0)) refl refl
 
 -- whether a packet was sent and whether one was forced is free
-pub valid-flags : (x : BlockEncoder) → Valid x → (begun stopped : Bool) → Valid (record { content = x .content; width = x .width; closable = x .closable; begun = begun; stopped = stopped; next = x .next; filled = x .filled; index = x .index; window = x .window })
+pub valid-flags : (x : BlockEncoder) → ValidEncoder x → (begun stopped : Bool) → ValidEncoder (record { content = x .content; width = x .width; closable = x .closable; begun = begun; stopped = stopped; next = x .next; filled = x .filled; index = x .index; window = x .window })
 valid-flags x v begun stopped = record { content = v .content; narrow = v .narrow; filled = v .filled; next = v .next; long = v .long; each = v .each; clear = v .clear }

@@ -5,14 +5,13 @@ pub mod EncoderViews
 pub mod Offsets
 pub mod EncoderReads
 pub mod EncoderPromises
-pub mod DrainLaws
 pub mod SessionFacts
 pub mod SessionLaws
 pub mod SessionRounds
 pub mod SessionTakes
 pub mod SessionViews
-pub mod FdtSessionLaws
 pub mod FdtSessionFacts
+pub mod FdtSessionLaws
 pub mod FdtSessionViews
 pub mod DeskCounts
 pub mod DeskNumbers
@@ -20,7 +19,6 @@ pub mod DeskListed
 pub mod DeskChanges
 pub mod DeskByNumber
 pub mod DeskPublish
-pub mod DeskLists
 pub mod DeskRefusals
 pub mod DeskAdds
 pub mod DeskRuns

@@ -1,36 +1,19 @@
 -- Where a symbol stands in what is sent: inside it, and no number on the way passes 64 bits.
 use mathlib.Core.Path.{_≡_, sym, subst}
-use mathlib.Core.Bool.{false, not}
+use mathlib.Core.Bool.{false}
 use Prim.Native.Nat.{ℕ, _+_, _-_, _*_, _≤_, _<_}
 use native.Mathlib.Nat.{le-mul-of-pos-right, mul-le-mul-right}
 use native.Mathlib.Omega.{arith}
-use lib.Dec.{ltb}
-use borrow.Author.Tests.{ltb-false, leb-false, not-false}
-use Rattle.sizes.specs.Limits.{largest-block, most-blocks}
-use Rattle.sizes.specs.Partition.{sbn, blocks-of, symbols-of, symbols-in, first-symbol}
+use borrow.Author.Tests.{leb-false}
+use Rattle.sizes.specs.Limits.{largest-block}
+use Rattle.sizes.specs.Partition.{sbn, symbols-of, symbols-in, first-symbol}
 use Rattle.sizes.specs.PartitionPromises.{Parted}
-use Rattle.sizes.specs.declared.partition.Sizes.{Sizes}
-use Rattle.sizes.proofs.Tests.{or-left, or-right}
 use Rattle.sizes.proofs.Arithmetic.{one-more}
 use Rattle.sizes.proofs.PartitionLaws.{parted, parted-bytes, rises}
-use Rattle.lifecycle.specs.Setup.{sound-sizes, bad-blocks}
-use Rattle.lifecycle.proofs.SetupLaws.{SoundSizes, sizes-told}
+use Rattle.lifecycle.proofs.SetupLaws.{SizesTold, blocks-told}
 use Rattle.sender.specs.EncoderCalls.{Sound, Inside, is-empty, offset-of}
 use Rattle.sender.specs.declared.block.Open.{Open}
 use Rattle.sender.specs.declared.blockencoder.Content.{Content}
-
--- what admitted sizes tell
-pub record SizesTold (z : Sizes) (l : ℕ) : Type 0 where
-  pub sizes : SoundSizes z
-  pub blocks : blocks-of z l .blocks ≤ most-blocks
-
-pub admitted : (z : Sizes) (l : ℕ) → bad-blocks z l ≡ false → SizesTold z l
-unfolding bad-blocks
-admitted z l e =
-    record {
-      sizes = sizes-told z (not-false (sound-sizes z) (or-left (not (sound-sizes z)) (ltb most-blocks (blocks-of z l .blocks)) e));
-      blocks = ltb-false most-blocks (blocks-of z l .blocks) (or-right (not (sound-sizes z)) (ltb most-blocks (blocks-of z l .blocks)) e);
-    }
 
 module _ (c : Content) (s : Sound c) where
   abbrev l : ℕ
@@ -40,7 +23,7 @@ module _ (c : Content) (s : Sound c) where
   e = c .sizes .e
 
   pub told : SizesTold (c .sizes) l
-  told = admitted (c .sizes) l (s .sizes)
+  told = blocks-told (c .sizes) l (s .sizes)
 
   pub cut-up : Parted (c .sizes .b) l e (c .partition)
   cut-up = subst (Parted (c .sizes .b) l e) (sym (s .cut)) (parted (c .sizes .b) l e (told .sizes .block .0) (told .sizes .symbol .0))

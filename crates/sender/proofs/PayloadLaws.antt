@@ -4,10 +4,9 @@ use mathlib.Core.Path.{_≡_, refl, sym, _∙_, ap}
 use mathlib.Core.Bool.{true, false}
 use mathlib.Core.Option.{none, some}
 use mathlib.Core.List.{[], _∷_}
-use Prim.Native.Nat.{ℕ, _+_, _-_, _≤_}
+use Prim.Native.Nat.{_+_, _-_}
 use native.Mathlib.Omega.{arith}
 use lib.ListN.{length, take, drop}
-use borrow.Author.Tests.{ltb-false}
 use types.Run.{OneOf}
 use denote.Enum.Declared.{tagOf}
 use Rattle.sizes.specs.Words.{if_then_else_, maybe}
@@ -20,22 +19,13 @@ use Rattle.sender.specs.declared.sender.RunAnswer.{RunAnswer}
 use Rattle.sender.specs.declared.sender.RunAnswer.the-variants as RunV
 use Rattle.sender.proofs.sender.RunAnswer.{the-type}
 
--- a part that does not end past a store lies in it
-pub lies-in : (n : ℕ) (c : Part) → past-store n c ≡ false → c .start + c .size ≤ n
-unfolding past-store
-lies-in n c h = ltb-false n (c .start + c .size) h
-
 -- an answer of every kind but the first has no packet
-pub no-packet : (m : Stores) (a : RunAnswer) → OneOf (1 ∷ 2 ∷ 3 ∷ 4 ∷ []) (tagOf the-type a) → [] ≡ payload-of m (packet-in a)
+pub no-packet : (m : Stores) (a : RunAnswer) → OneOf (1 ∷ 2 ∷ []) (tagOf the-type a) → [] ≡ payload-of m (packet-in a)
 unfolding payload-of place-of
 no-packet m (RunV.Packet p) (inl h) = absurd (omega arith)
-no-packet m (RunV.Packet p) (inr (inl h)) = absurd (omega arith)
-no-packet m (RunV.Packet p) (inr (inr (inl h))) = absurd (omega arith)
-no-packet m (RunV.Packet p) (inr (inr (inr h))) = absurd (omega arith)
+no-packet m (RunV.Packet p) (inr h) = absurd (omega arith)
 no-packet m RunV.Nothing h = refl
-no-packet m RunV.Sizes h = refl
-no-packet m RunV.Part h = refl
-no-packet m RunV.NoSession h = refl
+no-packet m (RunV.Refused why) h = refl
 
 -- where the payload of a packet stands
 module _ (p : Packet) where

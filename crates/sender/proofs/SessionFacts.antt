@@ -1,42 +1,78 @@
--- What done and take keep of the list: held objects stay good, and the settings, the FDT side and the loose numbers stay.
-use mathlib.Core.Path.{_≡_, refl, sym, _∙_, ap, subst}
-use mathlib.Core.Bool.{true, false, false≢true}
-use mathlib.Core.List.{List}
+-- What a run of a file session means in the definition's words, and what stays in it.
+use mathlib.Core.Path.{_≡_, refl, _∙_}
+use mathlib.Core.Bool.{Bool, true, false, not, _&&_, _||_, false≢true}
+use mathlib.Core.Option.{Option, none, some}
 use Prim.Native.Nat.{ℕ, _≤_}
 use lib.Dec.{eqb}
-use Rattle.sizes.specs.Words.{place}
 use Rattle.sizes.specs.Limits.{largest-window}
-use Rattle.sizes.proofs.Tables.{inside}
-use Rattle.sizes.proofs.AllocatorViews.{freed-view}
-use Rattle.lifecycle.specs.Slots.{no-slot, slot-at, queue-startable}
-use Rattle.lifecycle.specs.FdtCalls.{waiting, sends, used, taken-at, taken-of, goes-back, back-of, let-go-of, done-of}
-use Rattle.lifecycle.specs.FdtCalls.{Valid as ListValid}
-use Rattle.lifecycle.specs.FdtCalls.{started-slot, ended-slot}
-use Rattle.lifecycle.specs.FdtMeans.{file-at, Seen, Takes, nothing, takes, Ends, idle, back, gone}
-use Rattle.lifecycle.specs.declared.filedesc.FileDesc.{FileDesc}
-use Rattle.lifecycle.specs.declared.slots.Slot.{Slot}
+use Rattle.sizes.specs.Allocator as Alloc
+use Rattle.lifecycle.specs.Slots.{slot-at}
+use Rattle.lifecycle.specs.FdtCalls.{file-at, sends, taken-of, done-of}
+use Rattle.lifecycle.specs.FdtCalls.{ValidFdt}
 use Rattle.lifecycle.specs.declared.fdt.Fdt.{Fdt}
-use Rattle.lifecycle.specs.declared.fdt.Taken.{Taken}
-use Rattle.lifecycle.proofs.FdtFacts.{maybe-on, if-on, used-listed, used-sends, number-held}
-use Rattle.lifecycle.proofs.FdtValid.{valid-taken, valid-done}
-use Rattle.lifecycle.proofs.FdtViews.{at-each, taken-view, done-view}
-use Rattle.sender.specs.SessionCalls.{Good, Holds, Ready, Runs, idle-of}
-use Rattle.sender.specs.SessionMeans.{InHand, Stands, SameSide}
+use Rattle.lifecycle.proofs.FdtKeeps.{ObjectsOnly, SameNumbers, taken-keeps, done-keeps}
+use Rattle.lifecycle.proofs.TakesKeep.{taken-numbers, done-numbers}
+use Rattle.definition.specs.FdtSession.{Packet}
+use Rattle.definition.specs.Session as Def
+use Rattle.sender.specs.EncoderCalls.{symbol-said}
+use Rattle.sender.specs.SessionCalls.{session-of, Holds, Runs, idle-of}
+use Rattle.sender.specs.SessionMeans.{Stands, queue-of}
 use Rattle.sender.specs.declared.sendersession.SenderSession.{SenderSession}
+use Rattle.sender.specs.declared.sendersession.Outcome.{Outcome}
+use Rattle.sender.specs.declared.sendersession.Outcome.the-variants.{Idle, Sent, Over}
+use Rattle.sender.specs.declared.sendersession.Turn.{Turn}
 
--- ---- what stands between two calls
-
--- an object in hand may be sent
-pub in-hand-ready : (f : Fdt) (w : ℕ) (x : SenderSession) → ListValid f → InHand f w x → Ready f x
-in-hand-ready f w x v h = record { valid = v; slot = h .slot; encoder = h .encoder }
+-- ---- between two calls
 
 -- a session that stands may be run
 pub stands-runs : (f : Fdt) (w : ℕ) (x : SenderSession) → Holds f → w ≤ largest-window → Stands f w x → Runs f w x
-stands-runs f w x g n s = record { holds = g; narrow = n; busy = λ b. in-hand-ready f w x (g .valid) (s .busy b) }
+stands-runs f w x g n s = record { holds = g; narrow = n; busy = λ b. (let h = s .busy b in record { valid = g .valid; slot = h .slot; encoder = h .encoder }) }
 
 -- nothing in hand
 pub idle-stands : (f : Fdt) (w p : ℕ) → Stands f w (idle-of p)
 idle-stands f w p = record { busy = λ b. absurd (false≢true b); idle = λ b. refl }
+
+-- is slot j in its hand
+abbrev pub has-slot : SenderSession → ℕ → Bool
+has-slot x j = x .busy && eqb (x .slot) j
+
+-- ---- its run
+
+-- the packet of an answer, for the object with number t
+abbrev pub packet-said : ℕ → Outcome → Option Packet
+packet-said t Idle = none
+packet-said t (Sent s) = some record { id = none; toi = t; symbol = symbol-said s }
+packet-said t Over = none
+
+-- what a run comes to
+abbrev pub turn-of : Turn → Def.Turn
+turn-of r = record {
+  packet = packet-said (file-at (r .fdt .slots) (r .session .slot) .toi) (r .answer);
+  queue = queue-of (r .fdt);
+  hand = session-of (r .fdt .slots) (r .session) .hand;
+}
+
+-- what no run of a file session changes
+pub record SameSide (f r : Fdt) : Type 0 where
+  pub settings : r .settings ≡ f .settings
+  pub complete : r .complete ≡ f .complete
+  pub announcer : r .announcer ≡ f .announcer
+  pub next : r .tois .next ≡ f .tois .next
+  pub loose : Alloc.loose (r .tois) ≡ Alloc.loose (f .tois)
+
+-- a run of session x is the definition's turn m; what it leaves in hand, what is in transfer after it, and what stays
+pub record FileRuns (w : ℕ) (f : Fdt) (x : SenderSession) (m : Def.Turn) (r : Turn) : Type 0 where
+  pub view : m ≡ turn-of r
+  pub holds : Holds (r .fdt)
+  pub stands : Stands (r .fdt) w (r .session)
+  pub priority : r .session .priority ≡ x .priority
+  -- in transfer from now on: what it has in hand now, and all that it had not in hand before
+  pub sent : (j : ℕ) → sends (slot-at (r .fdt .slots) j) ≡ (has-slot (r .session) j || (not (has-slot x j) && sends (slot-at (f .slots) j)))
+  -- what it has in hand anew was not
+  pub new : (j : ℕ) → has-slot (r .session) j ≡ true → has-slot x j ≡ false → sends (slot-at (f .slots) j) ≡ false
+  -- what others have in hand stays as it was
+  pub others : (j : ℕ) → sends (slot-at (f .slots) j) ≡ true → has-slot x j ≡ false → slot-at (r .fdt .slots) j ≡ slot-at (f .slots) j
+  pub same : SameSide f (r .fdt)
 
 -- ---- what stays
 
@@ -52,58 +88,12 @@ same-on a b = record {
   loose = b .loose ∙ a .loose;
 }
 
--- a change of one slot that keeps the held objects good
-good-seen : (f r : Fdt) (l : List FileDesc) (k : ℕ) (v : Slot) → Seen f l k v r → (used v ≡ true → Good (v .file)) → ((j : ℕ) → used (slot-at (f .slots) j) ≡ true → Good (file-at (f .slots) j))
-    → (j : ℕ) → used (slot-at (r .slots) j) ≡ true → Good (file-at (r .slots) j)
-good-seen f r l k v s g h = at-each (λ j. used (slot-at (r .slots) j) ≡ true → Good (file-at (r .slots) j)) k
-    (subst (λ (y : Slot). used y ≡ true → Good (y .file)) (sym (s .new)) g)
-    (λ j e. subst (λ (y : Slot). used y ≡ true → Good (y .file)) (sym (s .same j e)) (h j))
+-- only objects have changed, and the numbers stay
+pub same-by : {f r : Fdt} → ObjectsOnly f r → SameNumbers f r → SameSide f r
+same-by o n = record { settings = o .settings; complete = o .complete; announcer = o .announcer; next = n .next; loose = n .loose }
 
--- ---- take
+pub taken-side : (f : Fdt) (p now : ℕ) → SameSide f (taken-of p now f .fdt)
+taken-side f p now = same-by (taken-keeps f p now) (taken-numbers f p now)
 
-module _ (f : Fdt) (p now : ℕ) where
-  pub taken-side : SameSide f (taken-of p now f .fdt)
-  unfolding taken-of taken-at
-  taken-side = maybe-on (λ (t : Taken). SameSide f (t .fdt)) (place (queue-startable (f .slots) p now) (waiting f)) (λ e. same-side f)
-      (λ n e. record { settings = refl; complete = refl; announcer = refl; next = refl; loose = refl })
-
-  pub holds-taken : Holds f → Holds (taken-of p now f .fdt)
-  holds-taken h = record { valid = valid-taken f (h .valid) p now; good = go (taken-of p now f) (taken-view f (h .valid) p now) }
-    where
-      go : (t : Taken) → Takes p now f t → (j : ℕ) → used (slot-at (t .fdt .slots) j) ≡ true → Good (file-at (t .fdt .slots) j)
-      go t (nothing e q) = subst (λ (t : Taken). (j : ℕ) → used (slot-at (t .fdt .slots) j) ≡ true → Good (file-at (t .fdt .slots) j)) (sym q) (h .good)
-      go t (takes n k i w a s) = good-seen f (t .fdt) _ k (started-slot now (slot-at (f .slots) k)) s
-          (λ e. let g = h .good k (used-listed (slot-at (f .slots) k) (w .is-listed)) in record { sizes = g .sizes; fits = g .fits }) (h .good)
-
--- ---- done
-
-module _ (f : Fdt) (v : ListValid f) (now k : ℕ) where
-  -- another slot stays as it was
-  pub done-other : (j : ℕ) → eqb k j ≡ false → slot-at (done-of now k f .slots) j ≡ slot-at (f .slots) j
-  done-other j e = go (done-of now k f) (done-view f v now k)
-    where
-      go : (r : Fdt) → Ends now k f r → slot-at (r .slots) j ≡ slot-at (f .slots) j
-      go r (idle s q) = ap (λ (y : Fdt). slot-at (y .slots) j) q
-      go r (back s g t w) = w .same j e
-      go r (gone s g t w) = w .same j e
-
-  pub done-side : SameSide f (done-of now k f)
-  unfolding done-of back-of let-go-of
-  done-side =
-      let y = slot-at (f .slots) k in
-      if-on (SameSide f) (sends y)
-      (λ s. if-on (SameSide f) (goes-back now y)
-      (λ g. record { settings = refl; complete = refl; announcer = refl; next = refl; loose = refl })
-      (λ g.
-      let d = freed-view (f .tois) (v .tois) (y .file .toi) (number-held f v k (inside no-slot sends (f .slots) k refl s) (used-sends y s)) in
-      record { settings = refl; complete = refl; announcer = refl; next = d .next-same; loose = d .loose-same }))
-      (λ s. same-side f)
-
-pub holds-done : (f : Fdt) → Holds f → (now k : ℕ) → Holds (done-of now k f)
-holds-done f h now k = record { valid = valid-done f (h .valid) now k; good = go (done-of now k f) (done-view f (h .valid) now k) }
-  where
-    go : (r : Fdt) → Ends now k f r → (j : ℕ) → used (slot-at (r .slots) j) ≡ true → Good (file-at (r .slots) j)
-    go r (idle s q) = subst (λ (r : Fdt). (j : ℕ) → used (slot-at (r .slots) j) ≡ true → Good (file-at (r .slots) j)) (sym q) (h .good)
-    go r (back s e t w) = good-seen f r _ k (ended-slot now (slot-at (f .slots) k)) w
-        (λ e. let g = h .good k (used-sends (slot-at (f .slots) k) s) in record { sizes = g .sizes; fits = g .fits }) (h .good)
-    go r (gone s e t w) = good-seen f r _ k no-slot w (λ e. absurd (false≢true e)) (h .good)
+pub done-side : (f : Fdt) → ValidFdt f → (now k : ℕ) → SameSide f (done-of now k f)
+done-side f v now k = same-by (done-keeps f now k) (done-numbers f v now k)

@@ -11,19 +11,19 @@ use Rattle.sizes.proofs.Lists.{at-map}
 use Rattle.sizes.proofs.Tables.{find-map, drop-map}
 use Rattle.lifecycle.specs.Lifecycle.{is-last}
 use Rattle.lifecycle.specs.FileDesc.{plan-of, life-of, startable-file}
-use Rattle.lifecycle.specs.FdtCalls.{waiting, files}
-use Rattle.lifecycle.specs.FdtCalls.{Valid as ListValid}
+use Rattle.lifecycle.specs.FdtCalls.{file-at, waiting, files}
+use Rattle.lifecycle.specs.FdtCalls.{ValidFdt}
 use Rattle.lifecycle.specs.FdtCalls.{started-slot}
-use Rattle.lifecycle.specs.FdtMeans.{file-at}
 use Rattle.lifecycle.specs.declared.filedesc.FileDesc.{FileDesc}
 use Rattle.lifecycle.specs.declared.slots.Slot.{Slot}
 use Rattle.lifecycle.specs.declared.fdt.Fdt.{Fdt}
 use Rattle.lifecycle.proofs.FileDescLaws.{life-started, pace-view}
 use Rattle.lifecycle.proofs.FdtFacts.{waits-at}
+use Rattle.lifecycle.proofs.TakesKeep.{startable-as}
 use Rattle.definition.specs.Encoder as DefEncoder
 use Rattle.definition.specs.Session as Def
 use Rattle.sender.specs.EncoderCalls.{new-of}
-use Rattle.sender.specs.EncoderCalls.{Valid as EncoderValid}
+use Rattle.sender.specs.EncoderCalls.{ValidEncoder}
 use Rattle.sender.specs.SessionCalls.{object-of, hand-of, Good, begun-of}
 use Rattle.sender.specs.SessionMeans.{queue-of}
 use Rattle.sender.proofs.EncoderPromises.{new-sound}
@@ -45,16 +45,16 @@ over-some f none b e = absurd (none≢some e)
 over-some f (some a) b e = (a, refl, cc)
 
 -- what waits is not in transfer
-files-unsent : (f : Fdt) → ListValid f → (n : ℕ) (o : FileDesc) → at (files f) n ≡ some o → o .life .transferring ≡ false
+files-unsent : (f : Fdt) → ValidFdt f → (n : ℕ) (o : FileDesc) → at (files f) n ≡ some o → o .life .transferring ≡ false
 files-unsent f v n o e =
     let h = over-some (file-at (f .slots)) (at (waiting f) n) o (sym (at-map (file-at (f .slots)) (waiting f) n) ∙ e) in
     subst (λ (a : FileDesc). a .life .transferring ≡ false) (h .2) (waits-at f v n (h .0) (h .1) .unsent)
 
 startable-same : (p now : ℕ) (o : FileDesc) → o .life .transferring ≡ false → Def.startable p now (object-of o) ≡ startable-file p now o
-unfolding Def.startable startable-file
-startable-same p now o e = rw e
+unfolding Def.startable
+startable-same p now o e = sym (startable-as p now o e)
 
-module _ (f : Fdt) (v : ListValid f) (p now : ℕ) where
+module _ (f : Fdt) (v : ValidFdt f) (p now : ℕ) where
   pub find-startable : find (Def.startable p now) (queue-of f) ≡ over object-of (find (startable-file p now) (files f))
   find-startable = find-map (Def.startable p now) object-of (files f)
       ∙ ap (over object-of) (find-in (λ o. Def.startable p now (object-of o)) (startable-file p now) (files f) (λ n o e. startable-same p now o (files-unsent f v n o e)))
@@ -70,13 +70,13 @@ pub begun-hand : (w now p k : ℕ) (y : Slot) → y .listed ≡ true
     → hand-of (started-slot now y) (begun-of w now p k (started-slot now y .file)) ≡ Def.begin now (object-of (y .file))
 unfolding begun-of new-of Def.begin
 begun-hand w now p k y e = λ i. record {
-  object = Def.living (life-started (y .file .rule) now (y .file .life) i) (object-of (y .file));
+  object = Def.living (life-started (y .file .plan) now (y .file .life) i) (object-of (y .file));
   listed = e i;
-  encoder = DefEncoder.fresh (is-last (plan-of (y .file .rule)) (life-started (y .file .rule) now (y .file .life) i));
-  pace = pace-view (y .file .rule) now (y .file .part .size) (y .file .sizes .e) i;
+  encoder = DefEncoder.fresh (is-last (plan-of (y .file .plan)) (life-started (y .file .plan) now (y .file .life) i));
+  pace = pace-view (y .file .plan) now (y .file .part .size) (y .file .sizes .e) i;
 }
 
 -- its encoder is one of it
-pub begun-valid : (w now p k : ℕ) (o : FileDesc) → Good o → w ≤ largest-window → EncoderValid (begun-of w now p k o .encoder)
+pub begun-valid : (w now p k : ℕ) (o : FileDesc) → Good o → w ≤ largest-window → ValidEncoder (begun-of w now p k o .encoder)
 unfolding begun-of new-of
-begun-valid w now p k o g n = new-sound (o .part) (o .sizes) w (is-last (plan-of (o .rule)) (life-of (o .life))) (record { cut = refl; sizes = g .sizes; fits = g .fits }) n
+begun-valid w now p k o g n = new-sound (o .part) (o .sizes) w (is-last (plan-of (o .plan)) (life-of (o .life))) (record { cut = refl; sizes = g .sizes; fits = g .fits }) n

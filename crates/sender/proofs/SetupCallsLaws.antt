@@ -1,6 +1,6 @@
 -- Set-up: which numbers are in their ranges, and that the sender which it opens is the definition's opening desk.
 use mathlib.Core.Path.{_≡_, refl, sym, _∙_, ap, subst}
-use mathlib.Core.Bool.{Bool, true, false, _&&_, false≢true}
+use mathlib.Core.Bool.{Bool, true, false, false≢true}
 use mathlib.Core.Option.{none, some}
 use mathlib.Core.List.{List, [], _∷_, map}
 use Prim.Native.Nat.{ℕ, zero, suc, _≤_}
@@ -12,29 +12,30 @@ use borrow.Author.Tests.{eqb-true, eqb-false, ne-eqb, le-leb, le-ltb, leb-true}
 use mir.Syntax.{w32}
 use mir.Val.{Fits}
 use Rattle.sizes.specs.Words.{if_then_else_, all, has, within, collect, one-if, times}
-use Rattle.sizes.specs.Limits.{object-slots, most-sessions, largest-priority, largest-window, longest-store, largest-fdt-id}
-use Rattle.sizes.specs.Toi.{first-toi}
+use Rattle.sizes.specs.Limits.{most-sessions, largest-priority, longest-store}
 use Rattle.sizes.specs.Allocator as Alloc
+use Rattle.sizes.specs.declared.toiallocator.ToiAllocator.{ToiAllocator}
 use Rattle.sizes.specs.declared.toiallocator.ToiMaxLength.{ToiMaxLength}
 use Rattle.sizes.specs.declared.toiallocator.ToiMaxLength.the-variants.{ToiMax16, ToiMax32, ToiMax48, ToiMax64}
-use Rattle.sizes.proofs.Tests.{Tested, pass, fail, tested, and-left, and-right}
+use Rattle.sizes.proofs.Tests.{Tested, pass, fail, tested}
+use Rattle.sizes.proofs.AllocatorViews.{opened-view, opened-next}
 use Rattle.lifecycle.specs.Lifecycle as Life
-use Rattle.lifecycle.specs.Setup.{sound, sound-sizes, widths}
-use Rattle.lifecycle.specs.Setup.{Setup as DefSetup}
-use Rattle.lifecycle.specs.Slots.{no-slot}
-use Rattle.lifecycle.specs.Announce.{state-of}
+use Rattle.lifecycle.specs.Setup.{sound, widths}
 use Rattle.lifecycle.specs.FdtCalls.{sends, used, opening-fdt}
-use Rattle.lifecycle.specs.FdtCalls.{Valid as ListValid}
+use Rattle.lifecycle.specs.FdtCalls.{ValidFdt}
 use Rattle.lifecycle.specs.declared.slots.Slot.{Slot}
 use Rattle.lifecycle.specs.declared.fdt.Fdt.{Fdt}
-use Rattle.lifecycle.proofs.SetupLaws.{told}
+use Rattle.lifecycle.specs.declared.fdt.Settings.{Settings}
+use Rattle.lifecycle.proofs.SetupLaws.{sizes-sound, told}
+use Rattle.lifecycle.proofs.SetupLaws.{passed, by-id}
+use Rattle.lifecycle.proofs.FdtKeeps.{OpeningList, opening-list}
 use Rattle.lifecycle.proofs.PublishLaws.{valid-opened}
 use Rattle.definition.specs.Desk as Def
 use Rattle.sender.proofs.SessionFacts.{idle-stands}
-use Rattle.sender.specs.SessionCalls.{idle-of, session-of}
-use Rattle.sender.specs.SessionMeans.{Stands}
-use Rattle.sender.specs.SenderCalls.{desk-of, Agrees, Valid, slot-in}
-use Rattle.sender.specs.SetupCalls.{carousel-said, priorities-said, setup-said, width-said, is-interval, interval-in, settings-of, priority-at, opening-of, plain, refused-of, opened-of, Opens}
+use Rattle.sender.specs.SessionCalls.{idle-of, object-of, session-of}
+use Rattle.sender.specs.SessionMeans.{Stands, fdt-carousel-of}
+use Rattle.sender.specs.SenderCalls.{desk-of, Agrees, ValidSender, slot-in}
+use Rattle.sender.specs.SetupCalls.{carousel-said, priorities-said, setup-said, width-said, is-interval, interval-in, settings-of, priority-at, opening-sender, plain, refused-of, opened-of, Opens}
 use Rattle.sender.specs.declared.sendersession.SenderSession.{SenderSession}
 use Rattle.sender.specs.declared.setup.Setup.{Setup}
 use Rattle.sender.specs.declared.setup.FdtCarousel.{FdtCarousel}
@@ -42,54 +43,6 @@ use Rattle.sender.specs.declared.setup.FdtCarousel.the-variants as Carou
 use Rattle.sender.specs.declared.setup.Width.the-variants as WidthV
 
 -- ---- every number in its range
-
--- what an accepted set-up passes
-pub record Passed (s : DefSetup) : Type 0 where
-  pub sessions : within 1 most-sessions (length (s .priorities)) ≡ true
-  pub window : within 1 largest-window (s .window) ≡ true
-  pub sizes : sound-sizes (s .sizes) ≡ true
-  pub object-store : leb (s .object-store) longest-store ≡ true
-  pub fdt-store : leb (s .fdt-store) longest-store ≡ true
-  pub width : has (s .width) widths ≡ true
-
-module _ (s : DefSetup) where
-  pub passed : sound s ≡ true → Passed s
-  unfolding sound
-  passed k =
-      let a = within 1 most-sessions (length (s .priorities)) in
-      let b = all (λ p. leb p largest-priority) (s .priorities) in
-      let c = within 1 largest-window (s .window) in
-      let d = sound-sizes (s .sizes) in
-      let e = leb (s .object-store) longest-store in
-      let f = leb (s .fdt-store) longest-store in
-      let g = has (s .width) widths in
-      let h = leb (s .first-id) largest-fdt-id in
-      let r7 = and-left (a && b && c && d && e && f && g) h k in
-      let r6 = and-left (a && b && c && d && e && f) g r7 in
-      let r5 = and-left (a && b && c && d && e) f r6 in
-      let r4 = and-left (a && b && c && d) e r5 in
-      let r3 = and-left (a && b && c) d r4 in
-      record {
-        sessions = and-left a b (and-left (a && b) c r3);
-        window = and-right (a && b) c r3;
-        sizes = and-right (a && b && c) d r4;
-        object-store = and-right (a && b && c && d) e r5;
-        fdt-store = and-right (a && b && c && d && e) f r6;
-        width = and-right (a && b && c && d && e && f) g r7;
-      }
-
-  -- one that fails refuses it
-  pub refused-by : {t : Bool} → (sound s ≡ true → t ≡ true) → t ≡ false → sound s ≡ false
-  refused-by f q = go (tested (sound s))
-    where
-      go : Tested (sound s) → sound s ≡ false
-      go (pass k) = absurd (false≢true (sym q ∙ f k))
-      go (fail k) = k
-
-  -- where all pass, and the priorities are in their range, it goes by the first FDT id
-  pub by-id : Passed s → all (λ p. leb p largest-priority) (s .priorities) ≡ true → sound s ≡ leb (s .first-id) largest-fdt-id
-  unfolding sound
-  by-id q b = λ i. q .sessions i && b i && q .window i && q .sizes i && q .object-store i && q .fdt-store i && q .width i && leb (s .first-id) largest-fdt-id
 
 -- every priority of 32 bits is in its range
 small-all : (n : ℕ) (l : List ℕ) → ((i : ℕ) → Fits w32 (getD l i 0)) → all (λ p. leb p largest-priority) (take n l) ≡ true
@@ -234,69 +187,82 @@ named t (x ∷ y ∷ z ∷ w ∷ v ∷ l) n q h = absurd (omega arith)
 
 -- ---- the opening sender
 
-no-slots : (m k : ℕ) → getD (replicate m no-slot) k no-slot ≡ no-slot
-no-slots zero k = refl
-no-slots (suc m) zero = refl
-no-slots (suc m) (suc k) = no-slots m k
-
 -- what every call is given
 pub record OpeningKept (z : Setup) : Type 0 where
-  pub means : desk-of (opening-of z) ≡ Def.opening (setup-said z)
-  pub agrees : Agrees (setup-said z) (opening-of z)
-  pub valid : Valid (opening-of z)
+  pub means : desk-of (opening-sender z) ≡ Def.opening (setup-said z)
+  pub agrees : Agrees (setup-said z) (opening-sender z)
+  pub valid : ValidSender (opening-sender z)
 
 module _ (z : Setup) (long : length (z .priorities) ≡ most-sessions) (ok : sound (setup-said z) ≡ true) where
   few : z .count ≤ most-sessions
   few = let q = told (setup-said z) ok .sessions .1 in let l = counted z long in omega arith
 
-  desk-opened : desk-of (opening-of z) ≡ Def.opening (setup-said z)
-  unfolding desk-of opening-of Def.opening opening-fdt Alloc.opening state-of
+  -- the list that it opens
+  opened-list : OpeningList (settings-of z) (Alloc.new-allocator (z .width) (z .«first_toi»)) (z .«first_fdt_id») (opening-sender z .fdt)
+  unfolding opening-sender
+  opened-list = opening-list (settings-of z) (Alloc.new-allocator (z .width) (z .«first_toi»)) (z .«first_fdt_id»)
+
+  desk-opened : desk-of (opening-sender z) ≡ Def.opening (setup-said z)
+  unfolding desk-of opening-sender Def.opening
   desk-opened =
+      let o = opened-list in
       let q : (if leb (z .count) most-sessions then take (z .count) (z .priorities) else replicate (z .count) 0) ≡ take (z .count) (z .priorities) = rw (le-leb (z .count) most-sessions few) in
-      let e = named (replicate object-slots no-slot) (z .priorities) (z .count) long few ∙ sym (ap (map (λ p. record { priority = p; hand = none })) q) in
+      let e = named (opening-sender z .fdt .slots) (z .priorities) (z .count) long few ∙ sym (ap (map (λ p. record { priority = p; hand = none })) q) in
+      let n = ap (λ (a : ToiAllocator). a .next) (o .tois) ∙ opened-next (z .width) (z .«first_toi») .0 in
+      let l = ap Alloc.loose (o .tois) ∙ opened-view (z .width) (z .«first_toi») .0 in
       λ i. record {
-        complete = false;
-        next = first-toi (z .width) (z .«first_toi»);
-        loose = [];
-        queue = [];
+        complete = o .complete i;
+        next = n i;
+        loose = l i;
+        queue = map object-of (o .queue i);
         sessions = e i;
-        fdt = record { state = record { next-id = z .«first_fdt_id»; last = none; waiting = []; current = none }; hand = none };
+        fdt = record { state = o .side i; hand = none };
       }
 
-  agrees-opened : Agrees (setup-said z) (opening-of z)
-  unfolding opening-of opening-fdt Alloc.opening
-  agrees-opened = record { window = refl; sizes = refl; object-store = refl; fdt-store = refl; width = refl; carousel = by-carousel (z .carousel); validity = refl }
+  agrees-opened : Agrees (setup-said z) (opening-sender z)
+  unfolding opening-sender
+  agrees-opened =
+      let x = sym (opened-list .settings) in
+      record {
+        window = refl;
+        sizes = ap (λ (x : Settings). x .sizes) x;
+        object-store = ap (λ (x : Settings). x .«object_store») x;
+        fdt-store = ap (λ (x : Settings). x .«fdt_store») x;
+        width = sym (ap (λ (a : ToiAllocator). a .width) (opened-list .tois) ∙ opened-next (z .width) (z .«first_toi») .1);
+        carousel = by-carousel (z .carousel) ∙ ap fdt-carousel-of x;
+        validity = ap (λ (x : Settings). x .validity) x;
+      }
     where
       by-carousel : (k : FdtCarousel) → carousel-said k ≡ (if is-interval k then Life.Carousel.interval (interval-in k) else Life.Carousel.delay (interval-in k))
       by-carousel (CarouselV.Delay t) = refl
       by-carousel (CarouselV.Interval t) = refl
 
-  list-valid : ListValid (opening-of z .fdt)
-  unfolding opening-of
+  list-valid : ValidFdt (opening-sender z .fdt)
+  unfolding opening-sender
   list-valid =
       let w = a-wide (z .width) (passed (setup-said z) ok .width) in
-      subst (λ n. ListValid (opening-fdt (settings-of z) (Alloc.opening n (z .«first_toi»)) (z .«first_fdt_id»))) (sym (w .1))
+      subst (λ n. ValidFdt (opening-fdt (settings-of z) (Alloc.new-allocator n (z .«first_toi»)) (z .«first_fdt_id»))) (sym (w .1))
       (valid-opened (settings-of z) (w .0) (z .«first_toi») (z .«first_fdt_id») (told (setup-said z) ok .first-id))
 
-  valid-opened-sender : Valid (opening-of z)
-  unfolding opening-of opening-fdt
+  valid-opened-sender : ValidSender (opening-sender z)
+  unfolding opening-sender
   valid-opened-sender =
       let t = told (setup-said z) ok in
-      let free = no-slots object-slots in
+      let o = opened-list in
       record {
-        holds = record { valid = list-valid; good = λ k u. absurd (false≢true (sym (ap used (free k)) ∙ u)) };
-        fdt-holds = record { valid = list-valid; waiting = λ i h. absurd (omega arith); current = λ q. absurd (false≢true q) };
-        object-store = t .object-store;
-        fdt-store = t .fdt-store;
+        holds = record { valid = list-valid; good = λ k u. absurd (false≢true (sym (ap used (o .slots k)) ∙ u)) };
+        fdt-holds = record { valid = list-valid; waiting = λ i h. absurd (let n = o .none-waits in omega arith); current = λ q. absurd (false≢true (sym (o .no-current) ∙ q)) };
+        object-store = subst (λ (x : Settings). x .«object_store» ≤ longest-store) (sym (o .settings)) (t .object-store);
+        fdt-store = subst (λ (x : Settings). x .«fdt_store» ≤ longest-store) (sym (o .settings)) (t .fdt-store);
         narrow = t .window .1;
         few = few;
         long = refl;
-        sessions = λ i h. four-stand (opening-of z .fdt) (z .window) (priority-at (z .priorities) (z .count)) i;
+        sessions = λ i h. four-stand (opening-sender z .fdt) (z .window) (priority-at (z .priorities) (z .count)) i;
         spare = four-spare (z .priorities) (z .count);
-        in-hand = λ k. ap (times k) (no-hands (z .count) (map (priority-at (z .priorities) (z .count)) (0 ∷ 1 ∷ 2 ∷ 3 ∷ []))) ∙ sym (ap (λ v. one-if (sends v)) (free k));
+        in-hand = λ k. ap (times k) (no-hands (z .count) (map (priority-at (z .priorities) (z .count)) (0 ∷ 1 ∷ 2 ∷ 3 ∷ []))) ∙ sym (ap (λ v. one-if (sends v)) (o .slots k));
         fdt-busy = λ q. absurd (false≢true q);
         fdt-idle = λ q. refl;
-        matched = refl;
+        matched = o .none-sent;
       }
 
   pub opening-kept : OpeningKept z
@@ -305,8 +271,7 @@ module _ (z : Setup) (long : length (z .priorities) ≡ most-sessions) (ok : sou
 -- ---- set-up
 
 pub plain-sound : sound (setup-said plain) ≡ true
-unfolding sound sound-sizes
-plain-sound = refl
+plain-sound = by-id (setup-said plain) (record { sessions = refl; window = refl; sizes = sizes-sound (plain .sizes) refl refl; object-store = refl; fdt-store = refl; width = refl }) refl
 
 module _ (z : Setup) where
   pub opens-not : sound (setup-said z) ≡ false → Opens z refused-of
@@ -318,7 +283,7 @@ module _ (z : Setup) where
     valid = opening-kept plain refl plain-sound .valid;
   }
 
-  pub opens : length (z .priorities) ≡ most-sessions → sound (setup-said z) ≡ true → Opens z (record { ok = true; sender = opening-of z })
+  pub opens : length (z .priorities) ≡ most-sessions → sound (setup-said z) ≡ true → Opens z (record { ok = true; sender = opening-sender z })
   unfolding opened-of Def.set-up
   opens long q =
       let k = opening-kept z long q in

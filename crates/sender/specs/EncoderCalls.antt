@@ -70,7 +70,7 @@ pub record Sound (c : Content) : Type 0 where
   pub fits : c .part .start + c .part .size < wide
 
 -- an encoder belongs to its object's partition
-pub record Valid (x : BlockEncoder) : Type 0 where
+pub record ValidEncoder (x : BlockEncoder) : Type 0 where
   pub content : Sound (x .content)
   pub narrow : x .width ≤ largest-window
   pub filled : x .filled ≤ x .width
@@ -118,25 +118,25 @@ unfoldable pub one-opened : BlockEncoder → BlockEncoder
 one-opened x = with-window x (x .next .0 + 1) (x .filled + 1) (x .index) (set (x .window) (x .filled) (record { sbn = x .next; esi = esi 0 }))
 
 -- n blocks more
-abbrev pub opened-of : ℕ → BlockEncoder → BlockEncoder
-opened-of zero x = x
-opened-of (suc n) x = opened-of n (one-opened x)
+abbrev pub blocks-opened : ℕ → BlockEncoder → BlockEncoder
+blocks-opened zero x = x
+blocks-opened (suc n) x = blocks-opened n (one-opened x)
 
 -- the window is filled
 unfoldable pub filled-of : BlockEncoder → BlockEncoder
-filled-of x = opened-of (min (x .width - x .filled) (x .content .partition .blocks - x .next .0)) x
+filled-of x = blocks-opened (min (x .width - x .filled) (x .content .partition .blocks - x .next .0)) x
 
 -- an index past the end becomes 0
-unfoldable pub place-of : BlockEncoder → ℕ
-place-of x = if ltb (x .index) (x .filled) then x .index else 0
+unfoldable pub place-to-visit : BlockEncoder → ℕ
+place-to-visit x = if ltb (x .index) (x .filled) then x .index else 0
 
 -- has the block to visit no symbol left
 unfoldable pub stuck : BlockEncoder → Bool
-stuck x = ltb 0 (x .filled) && is-empty (x .content .partition) (open-at x (place-of x))
+stuck x = ltb 0 (x .filled) && is-empty (x .content .partition) (open-at x (place-to-visit x))
 
 -- it leaves, and the index stays
 unfoldable pub without-of : BlockEncoder → BlockEncoder
-without-of x = with-window x (x .next .0) (x .filled - 1) (place-of x) (shut no-open (x .window) (place-of x))
+without-of x = with-window x (x .next .0) (x .filled - 1) (place-to-visit x) (shut no-open (x .window) (place-to-visit x))
 
 -- how many open blocks have no symbol left
 abbrev pub drained-count : BlockEncoder → ℕ
@@ -164,8 +164,8 @@ abbrev pub next-symbol : Open → Open
 next-symbol o = record { sbn = o .sbn; esi = esi (o .esi .0 + 1) }
 
 -- the bytes of a symbol; the last one may be short
-abbrev pub payload-of : Content → Open → Part
-payload-of c o = record { start = c .part .start + offset-of c o; size = min (c .sizes .e) (c .part .size - offset-of c o) }
+abbrev pub symbol-payload : Content → Open → Part
+symbol-payload c o = record { start = c .part .start + offset-of c o; size = min (c .sizes .e) (c .part .size - offset-of c o) }
 
 -- does a symbol of the block at a place close the transfer
 abbrev pub closes-of : Bool → BlockEncoder → ℕ → Open → Bool
@@ -175,16 +175,16 @@ closes-of force x i o = force || (x .closable && last-of x i (next-symbol o))
 abbrev pub shown-of : Content → ℕ → Open → Bool → Visit
 shown-of c i o close = record {
   place = i;
-  symbol = record { sbn = o .sbn; esi = o .esi; symbols = symbols-in (c .partition) (o .sbn); payload = payload-of c o; «transfer_length» = c .part .size; close = close };
+  symbol = record { sbn = o .sbn; esi = o .esi; symbols = symbols-in (c .partition) (o .sbn); payload = symbol-payload c o; «transfer_length» = c .part .size; close = close };
 }
 
 -- the symbol that the block to visit gives
 unfoldable pub visit-of : Bool → BlockEncoder → Visit
-visit-of force x = let i = place-of x in let o = open-at x i in shown-of (x .content) i o (closes-of force x i o)
+visit-of force x = let i = place-to-visit x in let o = open-at x i in shown-of (x .content) i o (closes-of force x i o)
 
 -- is a block left to open, or has the block to visit a symbol after its next one
 abbrev pub goes-on : BlockEncoder → Bool
-goes-on x = let p = x .content .partition in let o = open-at x (place-of x) in ltb (x .next .0) (p .blocks) || ltb (o .esi .0 + 1) (symbols-in p (o .sbn))
+goes-on x = let p = x .content .partition in let o = open-at x (place-to-visit x) in ltb (x .next .0) (p .blocks) || ltb (o .esi .0 + 1) (symbols-in p (o .sbn))
 
 -- is the transfer under way, with no block to open or to remove, and more to send after the next symbol
 unfoldable pub midway : BlockEncoder → Bool
@@ -240,7 +240,7 @@ pub record Reads (force : Bool) (x : BlockEncoder) (r : Read) : Type 0 where
   pub next : encoder-of (r .encoder) ≡ read-said force x .1
   pub content : r .encoder .content ≡ x .content
   pub width : r .encoder .width ≡ x .width
-  pub valid : Valid (r .encoder)
+  pub valid : ValidEncoder (r .encoder)
 
 -- ---- what a glance tells of the read
 

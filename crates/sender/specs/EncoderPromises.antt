@@ -3,7 +3,7 @@ use mathlib.Core.Path.{_≡_}
 use mathlib.Core.Bool.{true, false}
 use Prim.Native.Nat.{ℕ, _+_, _≤_, _<_}
 use Rattle.sizes.specs.Partition.{sbn, esi, symbols-of, symbols-in, first-symbol}
-use Rattle.sender.specs.EncoderCalls.{Inside, is-empty, payload-of}
+use Rattle.sender.specs.EncoderCalls.{Inside, is-empty, symbol-payload}
 use Rattle.sender.specs.declared.block.Open.{Open}
 use Rattle.sender.specs.declared.blockencoder.Content.{Content}
 use Rattle.sender.specs.declared.blockencoder.Symbol.{Symbol}
@@ -17,7 +17,7 @@ pub record OfBlock (c : Content) (s : Symbol) : Type 0 where
   pub inside : Inside c (named s)
   pub left : is-empty (c .partition) (named s) ≡ false
   pub symbols : s .symbols ≡ symbols-in (c .partition) (s .sbn)
-  pub payload : s .payload ≡ payload-of c (named s)
+  pub payload : s .payload ≡ symbol-payload c (named s)
   pub transfer-length : s .«transfer_length» ≡ c .part .size
 
 -- the one packet of an empty object

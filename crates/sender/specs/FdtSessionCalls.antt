@@ -10,22 +10,22 @@ use Rattle.sizes.specs.declared.partition.Sizes.{Sizes}
 use Rattle.lifecycle.specs.Setup.{bad-blocks}
 use Rattle.lifecycle.specs.Announce.{no-instance}
 use Rattle.lifecycle.specs.FdtCalls.{next-fdt-of, fdt-done-of}
-use Rattle.lifecycle.specs.FdtCalls.{Valid as ListValid}
+use Rattle.lifecycle.specs.FdtCalls.{ValidFdt}
 use Rattle.lifecycle.specs.declared.parts.Part.{Part}
 use Rattle.lifecycle.specs.declared.fdt.Fdt.{Fdt}
 use Rattle.lifecycle.specs.declared.announce.Draft.{Draft}
 use Rattle.lifecycle.specs.declared.announce.Draft.the-variants.{Given, Missing}
 use Rattle.definition.specs.FdtSession as Def
 use Rattle.sender.specs.EncoderCalls.{encoder-of, new-of, read-of}
-use Rattle.sender.specs.EncoderCalls.{Valid as EncoderValid}
+use Rattle.sender.specs.EncoderCalls.{ValidEncoder}
 use Rattle.sender.specs.SessionCalls.{no-encoder}
 use Rattle.sender.specs.declared.blockencoder.BlockEncoder.{BlockEncoder}
 use Rattle.sender.specs.declared.blockencoder.Emitted.{Emitted}
 use Rattle.sender.specs.declared.blockencoder.Emitted.the-variants as EmittedV
-use Rattle.sender.specs.declared.sendersession.Served.{Served}
-use Rattle.sender.specs.declared.sendersession.Served.the-variants.{Idle, Sent, Over}
+use Rattle.sender.specs.declared.sendersession.Outcome.{Outcome}
+use Rattle.sender.specs.declared.sendersession.Outcome.the-variants.{Idle, Sent, Over}
 use Rattle.sender.specs.declared.fdtsession.FdtSession.{FdtSession}
-use Rattle.sender.specs.declared.fdtsession.FdtRan.{FdtRan}
+use Rattle.sender.specs.declared.fdtsession.FdtTurn.{FdtTurn}
 
 -- ---- what the record means
 
@@ -37,8 +37,8 @@ fdt-hand-of x = if x .busy then some record { id = x .id; part = x .encoder .con
 
 -- the session may send: where an FDT is in hand, its encoder is one of it
 pub record FdtRuns (f : Fdt) (x : FdtSession) : Type 0 where
-  pub valid : ListValid f
-  pub busy : x .busy ≡ true → EncoderValid (x .encoder)
+  pub valid : ValidFdt f
+  pub busy : x .busy ≡ true → ValidEncoder (x .encoder)
 
 -- a part whose block count was admitted, and which lies in a store
 pub record GoodPart (z : Sizes) (c : Part) : Type 0 where
@@ -47,7 +47,7 @@ pub record GoodPart (z : Sizes) (c : Part) : Type 0 where
 
 -- every FDT that waits, and the current one, has such a part
 pub record FdtHolds (f : Fdt) : Type 0 where
-  pub valid : ListValid f
+  pub valid : ValidFdt f
   pub waiting : (i : ℕ) → i < f .announcer .waiting → GoodPart (f .settings .sizes) (getD (f .announcer .queue) i no-instance .part)
   pub current : f .announcer .«has_current» ≡ true → GoodPart (f .settings .sizes) (f .announcer .current .part)
 
@@ -61,7 +61,7 @@ pub record FdtTries (f : Fdt) (w : ℕ) (draft : Draft) (x : FdtSession) : Type 
   pub holds : FdtHolds f
   pub narrow : w ≤ largest-window
   pub looked : GoodDraft (f .settings .sizes) draft
-  pub busy : x .busy ≡ true → EncoderValid (x .encoder)
+  pub busy : x .busy ≡ true → ValidEncoder (x .encoder)
 
 -- ---- what the functions make of it
 
@@ -78,17 +78,17 @@ unfoldable pub fdt-begun-of : ℕ → ℕ → Part → Sizes → FdtSession
 fdt-begun-of w id c z = record { busy = true; id = id; encoder = new-of c z w false }
 
 -- after a read that left the encoder y: the transfer is over, or a symbol was sent
-abbrev pub fdt-sent-by : ℕ → Bool → Fdt → FdtSession → BlockEncoder → Emitted → FdtRan
+abbrev pub fdt-sent-by : ℕ → Bool → Fdt → FdtSession → BlockEncoder → Emitted → FdtTurn
 fdt-sent-by now taken f x y EmittedV.Nothing = record { taken = taken; answer = Over; fdt = fdt-done-of now f; session = fdt-idle-of }
 fdt-sent-by now taken f x y (EmittedV.One s) = record { taken = taken; answer = Sent s; fdt = f; session = record { busy = x .busy; id = x .id; encoder = y } }
 
-unfoldable pub fdt-sent-of : ℕ → Bool → Fdt → FdtSession → FdtRan
+unfoldable pub fdt-sent-of : ℕ → Bool → Fdt → FdtSession → FdtTurn
 fdt-sent-of now taken f x =
     if x .busy then fdt-sent-by now taken f x (read-of false (x .encoder) .encoder) (read-of false (x .encoder) .answer)
     else record { taken = taken; answer = Idle; fdt = f; session = x }
 
 -- with nothing in hand, ask for the next; a draft that was taken is not there any more. Then send
-unfoldable pub fdt-attempted-of : ℕ → ℕ → Draft → Bool → Fdt → FdtSession → FdtRan
+unfoldable pub fdt-attempted-of : ℕ → ℕ → Draft → Bool → Fdt → FdtSession → FdtTurn
 fdt-attempted-of w now draft taken f x =
     if x .busy then fdt-sent-of now taken f x
     else (let n = next-fdt-of now (left-of draft taken) f in
@@ -96,11 +96,11 @@ fdt-attempted-of w now draft taken f x =
     fdt-sent-of now (taken || n .taken) (n .fdt) (if n .starts then fdt-begun-of w (i .id) (i .part) (f .settings .sizes) else x))
 
 -- after the first round
-abbrev pub fdt-again-by : ℕ → ℕ → Draft → FdtRan → Served → FdtRan
+abbrev pub fdt-again-by : ℕ → ℕ → Draft → FdtTurn → Outcome → FdtTurn
 fdt-again-by w now draft a Over = fdt-attempted-of w now draft (a .taken) (a .fdt) (a .session)
 fdt-again-by w now draft a Idle = a
 fdt-again-by w now draft a (Sent s) = a
 
 -- a run of the FDT session
-unfoldable pub fdt-ran-of : ℕ → ℕ → Draft → Fdt → FdtSession → FdtRan
+unfoldable pub fdt-ran-of : ℕ → ℕ → Draft → Fdt → FdtSession → FdtTurn
 fdt-ran-of w now draft f x = let a = fdt-attempted-of w now draft false f x in fdt-again-by w now draft a (a .answer)

@@ -7,11 +7,13 @@ use Prim.Native.Nat.{ℕ, _<_, _≤_}
 use lib.Dec.{eqb, ltb}
 use lib.ListN.{length, getD, take, set}
 use Rattle.sizes.specs.Words.{if_then_else_, any, collect, Counts}
+use Rattle.sizes.specs.declared.refusal.Refusal.{Refusal}
+use Rattle.sizes.specs.declared.refusal.Refusal.the-variants as Because
 use Rattle.sizes.specs.Limits.{most-sessions, largest-window, longest-store}
 use Rattle.sizes.specs.Allocator as Alloc
 use Rattle.sizes.specs.declared.partition.Sizes.{Sizes}
 use Rattle.lifecycle.specs.Setup.{Setup as DefSetup}
-use Rattle.lifecycle.specs.FileDesc.{time-of, rule-named, carousel-named, target-named}
+use Rattle.lifecycle.specs.FileDesc.{time-of, plan-named, carousel-named, target-named}
 use Rattle.lifecycle.specs.Slots.{no-slot, slot-at}
 use Rattle.lifecycle.specs.Announce.{draft-given}
 use Rattle.lifecycle.specs.FdtCalls.{sends, publication-said, transfers-said, real-draft, draft-test-of, reserved-of, released-of, added-of, removed-of, triggered-of, is-added-of, transfers-of, completed-of, publish-of}
@@ -37,19 +39,17 @@ use Rattle.sender.specs.FdtSessionCalls.{FdtHolds, fdt-idle-of, fdt-ran-
 use Rattle.sender.specs.SessionMeans.{queue-of, fdt-of, fdt-carousel-of, Stands, FdtInHand}
 use Rattle.sender.specs.declared.sendersession.SenderSession.{SenderSession}
 use Rattle.sender.specs.declared.fdtsession.FdtSession.{FdtSession}
-use Rattle.sender.specs.declared.sendersession.Served.{Served}
-use Rattle.sender.specs.declared.sendersession.Served.the-variants as ServedV
+use Rattle.sender.specs.declared.sendersession.Outcome.{Outcome}
+use Rattle.sender.specs.declared.sendersession.Outcome.the-variants as OutcomeV
 use Rattle.sender.specs.declared.sender.Sender.{Sender}
 use Rattle.sender.specs.declared.sender.Object.{Object}
 use Rattle.sender.specs.declared.sender.Packet.{Packet}
-use Rattle.sender.specs.declared.sender.AddAnswer.{AddAnswer}
-use Rattle.sender.specs.declared.sender.AddAnswer.the-variants as AddV
 use Rattle.sender.specs.declared.sender.RunAnswer.{RunAnswer}
 use Rattle.sender.specs.declared.sender.RunAnswer.the-variants as RunV
 use Rattle.sender.specs.declared.sender.Reserving.{Reserving}
 use Rattle.sender.specs.declared.sender.Releasing.{Releasing}
 use Rattle.sender.specs.declared.sender.Adding.{Adding}
-use Rattle.sender.specs.declared.sender.Telling.{Telling}
+use Rattle.sender.specs.declared.sender.Touching.{Touching}
 use Rattle.sender.specs.declared.sender.Publishing.{Publishing}
 use Rattle.sender.specs.declared.sender.Running.{Running}
 
@@ -85,7 +85,7 @@ pub record Agrees (u : DefSetup) (s : Sender) : Type 0 where
 abbrev pub slot-in : SenderSession → Option ℕ
 slot-in x = if x .busy then some (x .slot) else none
 
-pub record Valid (s : Sender) : Type 0 where
+pub record ValidSender (s : Sender) : Type 0 where
   pub holds : Holds (s .fdt)
   pub fdt-holds : FdtHolds (s .fdt)
   pub object-store : s .fdt .settings .«object_store» ≤ longest-store
@@ -107,7 +107,7 @@ pub record Valid (s : Sender) : Type 0 where
 pub record Kept (s : Sender) (c : Def.Call) (a : Def.Answer) (r : Sender) : Type 0 where
   pub means : (u : DefSetup) → Agrees u s → Def.step u (desk-of s) c ≡ (a, desk-of r)
   pub agrees : (u : DefSetup) → Agrees u s → Agrees u r
-  pub valid : Valid r
+  pub valid : ValidSender r
 
 -- ---- what the answers say, by the table's numbers
 
@@ -116,14 +116,9 @@ alloc-answer (Alloc.Said.toi n) = Def.Answer.number n
 alloc-answer Alloc.Said.done = Def.Answer.done
 alloc-answer (Alloc.Said.refused n) = Def.Answer.refused n
 
-abbrev pub add-answer : AddAnswer → Def.Answer
-add-answer (AddV.Toi t) = Def.Answer.number t
-add-answer AddV.NoSession = Def.Answer.refused 2
-add-answer AddV.Complete = Def.Answer.refused 3
-add-answer AddV.Sizes = Def.Answer.refused 4
-add-answer AddV.Part = Def.Answer.refused 5
-add-answer AddV.Unknown = Def.Answer.refused 6
-add-answer AddV.Full = Def.Answer.refused 7
+abbrev pub add-answer : Admission → Def.Answer
+add-answer (AdmissionV.Toi t) = Def.Answer.number t
+add-answer (AdmissionV.Refused why) = Def.Answer.refused why
 
 abbrev pub packet-said : Packet → DefPacket
 packet-said p = record { id = if p .«is_fdt» then some (p .«fdt_id») else none; toi = p .toi; symbol = symbol-said (p .symbol) }
@@ -132,25 +127,19 @@ packet-said p = record { id = if p .«is_fdt» then some (p .«fdt_id») else no
 abbrev pub packet-in : RunAnswer → Option DefPacket
 packet-in (RunV.Packet p) = some (packet-said p)
 packet-in RunV.Nothing = none
-packet-in RunV.Sizes = none
-packet-in RunV.Part = none
-packet-in RunV.NoSession = none
+packet-in (RunV.Refused why) = none
 
 -- of a file session
 abbrev pub file-answer : RunAnswer → Def.Answer
 file-answer (RunV.Packet p) = Def.Answer.output (some (packet-said p))
 file-answer RunV.Nothing = Def.Answer.output none
-file-answer RunV.Sizes = Def.Answer.refused 4
-file-answer RunV.Part = Def.Answer.refused 5
-file-answer RunV.NoSession = Def.Answer.refused 8
+file-answer (RunV.Refused why) = Def.Answer.refused why
 
 -- of the FDT session, with whether the draft was taken
 abbrev pub fdt-answer : Bool → RunAnswer → Def.Answer
 fdt-answer taken (RunV.Packet p) = Def.Answer.fdt-output taken (some (packet-said p))
 fdt-answer taken RunV.Nothing = Def.Answer.fdt-output taken none
-fdt-answer taken RunV.Sizes = Def.Answer.refused 4
-fdt-answer taken RunV.Part = Def.Answer.refused 5
-fdt-answer taken RunV.NoSession = Def.Answer.refused 8
+fdt-answer taken (RunV.Refused why) = Def.Answer.refused why
 
 -- ---- what each call is on the definition's side
 
@@ -183,10 +172,10 @@ reserving-of s = record { answer = reserved-of (s .fdt) .answer; sender = with-l
 unfoldable pub releasing-of : ℕ → Sender → Releasing
 releasing-of t s = record { answer = released-of t (s .fdt) .answer; sender = with-list s (released-of t (s .fdt) .fdt) }
 
-unfoldable pub removing-of : ℕ → Sender → Telling
+unfoldable pub removing-of : ℕ → Sender → Touching
 removing-of t s = record { yes = removed-of t (s .fdt) .yes; sender = with-list s (removed-of t (s .fdt) .fdt) }
 
-unfoldable pub prompting-of : ℕ → Time → Sender → Telling
+unfoldable pub prompting-of : ℕ → Time → Sender → Touching
 prompting-of t start s = record { yes = triggered-of t start (s .fdt) .yes; sender = with-list s (triggered-of t start (s .fdt) .fdt) }
 
 abbrev pub completing-of : Sender → Sender
@@ -201,27 +190,19 @@ has-priority p x = eqb (x .priority) p
 
 -- what the list is asked for an object
 unfoldable pub request-of : Object → Request
-request-of o = record { priority = o .priority; part = o .part; own = o .own; rule = rule-named (o .most) (o .carousel) (o .target) (o .«stop_at_once»); start = o .start }
-
-abbrev pub admission-said : Admission → AddAnswer
-admission-said (AdmissionV.Toi t) = AddV.Toi t
-admission-said AdmissionV.Complete = AddV.Complete
-admission-said AdmissionV.Sizes = AddV.Sizes
-admission-said AdmissionV.Part = AddV.Part
-admission-said AdmissionV.Unknown = AddV.Unknown
-admission-said AdmissionV.Full = AddV.Full
+request-of o = record { priority = o .priority; part = o .part; own = o .own; plan = plan-named (o .most) (o .carousel) (o .target) (o .«stop_at_once»); start = o .start }
 
 unfoldable pub adding-of : Object → Named → Sender → Adding
 adding-of o named s =
     if any (has-priority (o .priority)) (working s)
-    then (let r = added-of (s .fdt) (request-of o) named in record { answer = admission-said (r .answer); sender = with-list s (r .fdt) })
-    else record { answer = AddV.NoSession; sender = s }
+    then (let r = added-of (s .fdt) (request-of o) named in record { answer = r .answer; sender = with-list s (r .fdt) })
+    else record { answer = AdmissionV.Refused Because.NoPriority; sender = s }
 
 -- the answer of a session's run
-abbrev pub answer-of : Bool → ℕ → ℕ → Served → RunAnswer
-answer-of f toi id ServedV.Idle = RunV.Nothing
-answer-of f toi id ServedV.Over = RunV.Nothing
-answer-of f toi id (ServedV.Sent y) = RunV.Packet (record { «is_fdt» = f; toi = toi; «fdt_id» = id; symbol = y })
+abbrev pub answer-of : Bool → ℕ → ℕ → Outcome → RunAnswer
+answer-of f toi id OutcomeV.Idle = RunV.Nothing
+answer-of f toi id OutcomeV.Over = RunV.Nothing
+answer-of f toi id (OutcomeV.Sent y) = RunV.Packet (record { «is_fdt» = f; toi = toi; «fdt_id» = id; symbol = y })
 
 -- the sender with x for file session k
 abbrev pub with-session : ℕ → SenderSession → Sender → Sender
@@ -240,22 +221,21 @@ running-of i now s =
       answer = answer-of false (slot-at (r .fdt .slots) (r .session .slot) .file .toi) 0 (r .answer);
       sender = record { fdt = r .fdt; window = s .window; count = s .count; sessions = set (s .sessions) i (r .session); «fdt_session» = s .«fdt_session» };
     })
-    else record { taken = false; answer = RunV.NoSession; sender = s }
+    else record { taken = false; answer = RunV.Refused Because.NoSession; sender = s }
 
 -- why a draft is refused
 abbrev pub draft-answer : DraftTest → RunAnswer
 draft-answer DraftTestV.Good = RunV.Nothing
-draft-answer DraftTestV.Sizes = RunV.Sizes
-draft-answer DraftTestV.Part = RunV.Part
+draft-answer (DraftTestV.Refused why) = RunV.Refused why
 
 -- a run of the FDT session with a draft that was looked at
-abbrev pub fdt-running-by : ℕ → Draft → Sender → Option ℕ → Running
+abbrev pub fdt-running-by : ℕ → Draft → Sender → Option Refusal → Running
 fdt-running-by now draft s none = let r = fdt-ran-of (s .window) now draft (s .fdt) (s .«fdt_session») in record {
   taken = r .taken;
   answer = answer-of true 0 (r .session .id) (r .answer);
   sender = record { fdt = r .fdt; window = s .window; count = s .count; sessions = s .sessions; «fdt_session» = r .session };
 }
-fdt-running-by now draft s (some n) = record { taken = false; answer = if eqb n 4 then RunV.Sizes else RunV.Part; sender = s }
+fdt-running-by now draft s (some why) = record { taken = false; answer = RunV.Refused why; sender = s }
 
 unfoldable pub fdt-running-of : ℕ → Draft → Sender → Running
 fdt-running-of now draft s = fdt-running-by now (real-draft draft) s (draft-test-of (real-draft draft) (s .fdt))
@@ -274,21 +254,21 @@ pub record Adds (o : Object) (named : Named) (s : Sender) (r : Adding) : Type 0 
   pub exact : r ≡ adding-of o named s
   pub kept : Kept s (Def.Call.add (named-said named) (object-said o)) (add-answer (r .answer)) (r .sender)
 
-pub record Removes (t : ℕ) (s : Sender) (r : Telling) : Type 0 where
+pub record Removes (t : ℕ) (s : Sender) (r : Touching) : Type 0 where
   pub exact : r ≡ removing-of t s
-  pub kept : Kept s (Def.Call.remove t) (Def.Answer.truth (r .yes)) (r .sender)
+  pub kept : Kept s (Def.Call.touch t Def.Touch.remove) (Def.Answer.truth (r .yes)) (r .sender)
 
-pub record Prompts (t : ℕ) (start : Time) (s : Sender) (r : Telling) : Type 0 where
+pub record Prompts (t : ℕ) (start : Time) (s : Sender) (r : Touching) : Type 0 where
   pub exact : r ≡ prompting-of t start s
-  pub kept : Kept s (Def.Call.trigger t (time-of start)) (Def.Answer.truth (r .yes)) (r .sender)
+  pub kept : Kept s (Def.Call.touch t (Def.Touch.trigger (time-of start))) (Def.Answer.truth (r .yes)) (r .sender)
 
 pub record Lists (t : ℕ) (s : Sender) (r : Bool) : Type 0 where
   pub exact : r ≡ is-added-of t (s .fdt)
-  pub kept : Kept s (Def.Call.listed t) (Def.Answer.truth r) s
+  pub kept : Kept s (Def.Call.ask (Def.Question.listed t)) (Def.Answer.truth r) s
 
-pub record Totals (t : ℕ) (s : Sender) (r : Transfers) : Type 0 where
+pub record CountsTransfers (t : ℕ) (s : Sender) (r : Transfers) : Type 0 where
   pub exact : transfers-said r ≡ transfers-of t (s .fdt)
-  pub kept : Kept s (Def.Call.transfers t) (Def.Answer.transferred (transfers-said r)) s
+  pub kept : Kept s (Def.Call.ask (Def.Question.transfers t)) (Def.Answer.transferred (transfers-said r)) s
 
 pub record Completes (s r : Sender) : Type 0 where
   pub exact : r ≡ completing-of s
@@ -304,4 +284,4 @@ pub record RunsFdt (now : ℕ) (draft : Draft) (s : Sender) (r : Running) : Type
 
 pub record RunsFile (i now : ℕ) (s : Sender) (r : Running) : Type 0 where
   pub exact : r ≡ running-of i now s
-  pub kept : Kept s (Def.Call.run-file now i) (file-answer (r .answer)) (r .sender)
+  pub kept : Kept s (Def.Call.run-file i now) (file-answer (r .answer)) (r .sender)

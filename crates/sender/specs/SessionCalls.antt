@@ -14,28 +14,28 @@ use Rattle.lifecycle.specs.FileDesc.{plan-of, life-of, pace-said, no-pace, pace
 use Rattle.lifecycle.specs.Slots.{slot-at}
 use Rattle.lifecycle.specs.Announce.{waits-of}
 use Rattle.lifecycle.specs.FdtCalls.{used, taken-of, done-of}
-use Rattle.lifecycle.specs.FdtCalls.{Valid as ListValid}
+use Rattle.lifecycle.specs.FdtCalls.{ValidFdt}
 use Rattle.lifecycle.specs.declared.filedesc.FileDesc.{FileDesc}
 use Rattle.lifecycle.specs.declared.slots.Slot.{Slot}
-use Rattle.lifecycle.specs.declared.slots.Place.{Place}
-use Rattle.lifecycle.specs.declared.slots.Place.the-variants as PlaceV
+use Rattle.sizes.specs.declared.place.Place.{Place}
+use Rattle.sizes.specs.declared.place.Place.the-variants as PlaceV
 use Rattle.lifecycle.specs.declared.fdt.Fdt.{Fdt}
 use Rattle.definition.specs.Session as Def
 use Rattle.sender.specs.EncoderCalls.{no-open, encoder-of, new-of, read-of}
-use Rattle.sender.specs.EncoderCalls.{Valid as EncoderValid}
+use Rattle.sender.specs.EncoderCalls.{ValidEncoder}
 use Rattle.sender.specs.declared.blockencoder.BlockEncoder.{BlockEncoder}
 use Rattle.sender.specs.declared.blockencoder.Emitted.{Emitted}
 use Rattle.sender.specs.declared.blockencoder.Emitted.the-variants as EmittedV
 use Rattle.sender.specs.declared.sendersession.SenderSession.{SenderSession}
-use Rattle.sender.specs.declared.sendersession.Served.{Served}
-use Rattle.sender.specs.declared.sendersession.Served.the-variants.{Idle, Sent, Over}
-use Rattle.sender.specs.declared.sendersession.Service.{Service}
-use Rattle.sender.specs.declared.sendersession.Ran.{Ran}
+use Rattle.sender.specs.declared.sendersession.Outcome.{Outcome}
+use Rattle.sender.specs.declared.sendersession.Outcome.the-variants.{Idle, Sent, Over}
+use Rattle.sender.specs.declared.sendersession.Serving.{Serving}
+use Rattle.sender.specs.declared.sendersession.Turn.{Turn}
 
 -- ---- what the records mean
 
 abbrev pub object-of : FileDesc → Def.Object
-object-of o = record { toi = o .toi; priority = o .priority; part = o .part; sizes = o .sizes; plan = plan-of (o .rule); life = life-of (o .life) }
+object-of o = record { toi = o .toi; priority = o .priority; part = o .part; sizes = o .sizes; plan = plan-of (o .plan); life = life-of (o .life) }
 
 -- what a session has in hand, of an object in a slot
 abbrev pub hand-of : Slot → SenderSession → Def.Hand
@@ -53,14 +53,14 @@ pub record Good (o : FileDesc) : Type 0 where
 
 -- the list's own state, with every held object good
 pub record Holds (f : Fdt) : Type 0 where
-  pub valid : ListValid f
+  pub valid : ValidFdt f
   pub good : (k : ℕ) → used (slot-at (f .slots) k) ≡ true → Good (slot-at (f .slots) k .file)
 
 -- an object is in hand
 pub record Ready (f : Fdt) (x : SenderSession) : Type 0 where
-  pub valid : ListValid f
+  pub valid : ValidFdt f
   pub slot : x .slot < object-slots
-  pub encoder : EncoderValid (x .encoder)
+  pub encoder : ValidEncoder (x .encoder)
 
 -- a session may be run: where an object is in hand, its encoder is one of it
 pub record Runs (f : Fdt) (w : ℕ) (x : SenderSession) : Type 0 where
@@ -94,54 +94,54 @@ begun-of w now p k o = record {
   priority = p;
   busy = true;
   slot = k;
-  pace = pace-at (o .rule) now (o .part .size) (o .sizes .e);
-  encoder = new-of (o .part) (o .sizes) w (is-last (plan-of (o .rule)) (life-of (o .life)));
+  pace = pace-at (o .plan) now (o .part .size) (o .sizes .e);
+  encoder = new-of (o .part) (o .sizes) w (is-last (plan-of (o .plan)) (life-of (o .life)));
 }
 
 -- is the transfer to be forced to its end
 unfoldable pub forced-slot : Slot → Bool
-forced-slot v = may-stop (plan-of (v .file .rule)) (life-of (v .file .life)) && not (v .listed)
+forced-slot v = may-stop (plan-of (v .file .plan)) (life-of (v .file .life)) && not (v .listed)
 
 -- after a read that left the encoder y: the transfer is over, or a symbol was sent and the due time has moved
-abbrev pub service-by : SenderSession → BlockEncoder → Emitted → Service
+abbrev pub service-by : SenderSession → BlockEncoder → Emitted → Serving
 service-by x y EmittedV.Nothing = record { answer = Over; session = x }
 service-by x y (EmittedV.One s) = record { answer = Sent s; session = record { priority = x .priority; busy = x .busy; slot = x .slot; pace = ticked-of (x .pace); encoder = y } }
 
 -- nothing while an FDT is queued or before the due time; else a read
-unfoldable pub served-of : Bool → Bool → ℕ → SenderSession → Service
+unfoldable pub served-of : Bool → Bool → ℕ → SenderSession → Serving
 served-of forced blocked now x =
     if blocked || too-early now (pace-said (x .pace)) then record { answer = Idle; session = x }
     else service-by x (read-of forced (x .encoder) .encoder) (read-of forced (x .encoder) .answer)
 
 -- at the end of its transfer the object is done, and the hand is empty
-abbrev pub ran-by : ℕ → Fdt → SenderSession → SenderSession → Served → Ran
+abbrev pub ran-by : ℕ → Fdt → SenderSession → SenderSession → Outcome → Turn
 ran-by now f x y Over = record { answer = Over; fdt = done-of now (x .slot) f; session = idle-of (x .priority) }
 ran-by now f x y Idle = record { answer = Idle; fdt = f; session = y }
 ran-by now f x y (Sent s) = record { answer = Sent s; fdt = f; session = y }
 
 -- with an object in hand
-unfoldable pub attended-of : ℕ → Fdt → SenderSession → Ran
+unfoldable pub attended-of : ℕ → Fdt → SenderSession → Turn
 attended-of now f x =
     let r = served-of (forced-slot (slot-at (f .slots) (x .slot))) (waits-of (f .announcer)) now x in
     ran-by now f x (r .session) (r .answer)
 
 -- with what was taken, if anything
-abbrev pub taken-by : ℕ → ℕ → Fdt → SenderSession → Place → Ran
+abbrev pub taken-by : ℕ → ℕ → Fdt → SenderSession → Place → Turn
 taken-by w now f x PlaceV.Nothing = record { answer = Idle; fdt = f; session = x }
 taken-by w now f x (PlaceV.At k) = attended-of now f (begun-of w now (x .priority) k (slot-at (f .slots) k .file))
 
 -- with nothing in hand: the first in the queue that may start is taken
-unfoldable pub taken-on-of : ℕ → ℕ → Fdt → SenderSession → Ran
+unfoldable pub taken-on-of : ℕ → ℕ → Fdt → SenderSession → Turn
 taken-on-of w now f x = let t = taken-of (x .priority) now f in taken-by w now (t .fdt) x (t .answer)
 
 -- after the first round: a transfer that is over makes room for another
-abbrev pub again-by : ℕ → ℕ → Ran → Served → Ran
+abbrev pub again-by : ℕ → ℕ → Turn → Outcome → Turn
 again-by w now a Over = taken-on-of w now (a .fdt) (a .session)
 again-by w now a Idle = a
 again-by w now a (Sent s) = a
 
 -- a run of a file session
-unfoldable pub ran-of : ℕ → ℕ → Fdt → SenderSession → Ran
+unfoldable pub ran-of : ℕ → ℕ → Fdt → SenderSession → Turn
 ran-of w now f x =
     if x .busy then again-by w now (attended-of now f x) (attended-of now f x .answer)
     else taken-on-of w now f x

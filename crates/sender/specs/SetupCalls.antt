@@ -1,4 +1,5 @@
 -- Set-up as the code has it: what it says, the sender that it opens, and what is promised of it.
+use Rattle.sizes.specs.declared.refusal.Refusal.the-variants as Because
 use mathlib.Core.Path.{_≡_}
 use mathlib.Core.Bool.{Bool, true, false}
 use mathlib.Core.Option.{none, some}
@@ -18,7 +19,7 @@ use Rattle.lifecycle.specs.declared.fdt.Settings.{Settings}
 use Rattle.definition.specs.Desk as Def
 use Rattle.sender.specs.SessionCalls.{idle-of}
 use Rattle.sender.specs.FdtSessionCalls.{fdt-idle-of}
-use Rattle.sender.specs.SenderCalls.{desk-of, Agrees, Valid}
+use Rattle.sender.specs.SenderCalls.{desk-of, Agrees, ValidSender}
 use Rattle.sender.specs.declared.sender.Sender.{Sender}
 use Rattle.sender.specs.declared.setup.Setup.{Setup}
 use Rattle.sender.specs.declared.setup.FdtCarousel.{FdtCarousel}
@@ -84,9 +85,9 @@ settings-of z = record {
 unfoldable pub priority-at : List ℕ → ℕ → ℕ → ℕ
 priority-at l n i = if ltb i n then getD l i 0 else 0
 
-unfoldable pub opening-of : Setup → Sender
-opening-of z = record {
-  fdt = opening-fdt (settings-of z) (Alloc.opening (z .width) (z .«first_toi»)) (z .«first_fdt_id»);
+unfoldable pub opening-sender : Setup → Sender
+opening-sender z = record {
+  fdt = opening-fdt (settings-of z) (Alloc.new-allocator (z .width) (z .«first_toi»)) (z .«first_fdt_id»);
   window = z .window;
   count = z .count;
   sessions = map idle-of (map (priority-at (z .priorities) (z .count)) (0 ∷ 1 ∷ 2 ∷ 3 ∷ []));
@@ -111,15 +112,15 @@ plain = record {
 
 -- what a refused set-up gives
 abbrev pub refused-of : Opened
-refused-of = record { ok = false; sender = opening-of plain }
+refused-of = record { ok = false; sender = opening-sender plain }
 
 unfoldable pub opened-of : Setup → Opened
-opened-of z = if sound (setup-said z) then record { ok = true; sender = opening-of z } else refused-of
+opened-of z = if sound (setup-said z) then record { ok = true; sender = opening-sender z } else refused-of
 
 -- ---- what is promised: refusal 1 exactly where a number is out of its range, and the definition's opening desk where not
 
 pub record Opens (z : Setup) (r : Opened) : Type 0 where
   pub exact : r ≡ opened-of z
-  pub means : Def.set-up (setup-said z) ≡ (if r .ok then (Def.Answer.done, some (desk-of (r .sender))) else (Def.Answer.refused 1, none))
+  pub means : Def.set-up (setup-said z) ≡ (if r .ok then (Def.Answer.done, some (desk-of (r .sender))) else (Def.Answer.refused Because.SetUp, none))
   pub agrees : r .ok ≡ true → Agrees (setup-said z) (r .sender)
-  pub valid : Valid (r .sender)
+  pub valid : ValidSender (r .sender)

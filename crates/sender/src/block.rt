@@ -27,7 +27,7 @@ pub fn no_open() -> Open
 pub fn nb_source_symbols(p: Partition, k: Sbn) -> u64
     ensures { λ r. ⌜ r ≡ symbols-in p k ⌝ }
 {
-    if (k.0 as u64) < p.bigs {
+    if (k.0 as u64) < p.nb_a_large {
         p.large
     } else {
         p.small

@@ -4,15 +4,19 @@ ghost use mathlib.Core.Bool.{true, false};
 ghost use Prim.Native.Nat.{_<_, _≤_};
 ghost use lib.ListN.{take};
 ghost use Rattle.sizes.specs.Words.{all, shut};
-ghost use Rattle.sender.specs.EncoderCalls.{Valid, Inside, Reads, no-open, is-empty, open-at, new-of, has-room, one-opened, filled-of, place-of, stuck, without-of, ready-of, offset-of, payload-of, last-of, closes-of, shown-of, visit-of, midway, glance-of, moved-of, emptied-of};
+ghost use Rattle.sizes.specs.Limits.{largest-block, largest-window};
+ghost use Rattle.sender.specs.EncoderCalls.{ValidEncoder, Inside, Reads, no-open, is-empty, open-at, new-of, has-room, one-opened, filled-of, place-to-visit, stuck, without-of, ready-of, offset-of, symbol-payload, last-of, closes-of, shown-of, visit-of, midway, glance-of, moved-of, emptied-of};
 use crate::block::Open;
 use crate::block::nb_source_symbols;
 use crate::block::no_open;
 use lifecycle::parts::Part;
+use sizes::limits::LARGEST_WINDOW;
 use sizes::numbers::Esi;
 use sizes::numbers::Sbn;
 use sizes::partition::Partition;
 use sizes::partition::Sizes;
+
+const LAST_PLACE: usize = LARGEST_WINDOW - 1;
 
 // What is sent: its part of the store, and how it is cut.
 #[repr(C)]
@@ -33,7 +37,7 @@ pub struct BlockEncoder {
     pub next: Sbn,
     pub filled: usize,
     pub index: usize,
-    pub window: [Open; 16],
+    pub window: [Open; LARGEST_WINDOW],
 }
 
 // What a packet says of its symbol; the payload is a part of the store.
@@ -72,24 +76,24 @@ pub struct Read {
 }
 
 // The window without the block at `at`: the later ones move up, and zeros come in at the end.
-fn removed(window: [Open; 16], at: usize) -> [Open; 16]
-    requires { ⌜ at < 16 ⌝ }
+fn removed(window: [Open; LARGEST_WINDOW], at: usize) -> [Open; LARGEST_WINDOW]
+    requires { ⌜ at < largest-window ⌝ }
     ensures { λ r. ⌜ r ≡ shut no-open window at ⌝ }
 {
     let mut out = window;
     let mut j = at;
-    while j < 15 {
+    while j < LAST_PLACE {
         let o = out[j + 1];
         out[j] = o;
         j += 1;
     }
-    out[15] = no_open();
+    out[LAST_PLACE] = no_open();
     out
 }
 
 // Has none of the first n blocks a symbol left?
-fn all_empty(p: Partition, window: [Open; 16], n: usize) -> bool
-    requires { ⌜ n ≤ 16 ⌝ }
+fn all_empty(p: Partition, window: [Open; LARGEST_WINDOW], n: usize) -> bool
+    requires { ⌜ n ≤ largest-window ⌝ }
     ensures { λ r. ⌜ r ≡ all (is-empty p) (take n window) ⌝ }
 {
     let mut i: usize = 0;
@@ -123,7 +127,7 @@ impl BlockEncoder {
             next: Sbn(0),
             filled: 0,
             index: 0,
-            window: [none; 16],
+            window: [none; LARGEST_WINDOW],
         }
     }
 
@@ -139,7 +143,7 @@ impl BlockEncoder {
 
     // The next block is opened, at the window's end.
     fn read_block(self) -> BlockEncoder
-        requires { ⌜ Valid self × (has-room self ≡ true) ⌝ }
+        requires { ⌜ ValidEncoder self × (has-room self ≡ true) ⌝ }
         ensures { λ r. ⌜ r ≡ one-opened self ⌝ }
     {
         let n = self.filled;
@@ -157,7 +161,7 @@ impl BlockEncoder {
 
     // The window is filled.
     fn read_window(self) -> BlockEncoder
-        requires { ⌜ Valid self ⌝ }
+        requires { ⌜ ValidEncoder self ⌝ }
         ensures { λ r. ⌜ r ≡ filled-of self ⌝ }
     {
         let mut x = self;
@@ -169,7 +173,7 @@ impl BlockEncoder {
 
     // The place to visit: an index past the end becomes 0.
     fn place(self) -> usize
-        ensures { λ r. ⌜ r ≡ place-of self ⌝ }
+        ensures { λ r. ⌜ r ≡ place-to-visit self ⌝ }
     {
         if self.index < self.filled {
             self.index
@@ -180,7 +184,7 @@ impl BlockEncoder {
 
     // Has the block to visit no symbol left?
     fn is_stuck(self) -> bool
-        requires { ⌜ Valid self ⌝ }
+        requires { ⌜ ValidEncoder self ⌝ }
         ensures { λ r. ⌜ r ≡ stuck self ⌝ }
     {
         if self.filled == 0 {
@@ -194,7 +198,7 @@ impl BlockEncoder {
 
     // The block to visit leaves, and the index stays.
     fn without(self) -> BlockEncoder
-        requires { ⌜ Valid self × (0 < self .filled) ⌝ }
+        requires { ⌜ ValidEncoder self × (0 < self .filled) ⌝ }
         ensures { λ r. ⌜ r ≡ without-of self ⌝ }
     {
         let i = self.place();
@@ -210,7 +214,7 @@ impl BlockEncoder {
 
     // Filled, and with no drained block at the place to visit.
     fn ready(self) -> BlockEncoder
-        requires { ⌜ Valid self ⌝ }
+        requires { ⌜ ValidEncoder self ⌝ }
         ensures { λ r. ⌜ r ≡ ready-of self ⌝ }
     {
         let mut x = self.read_window();
@@ -223,22 +227,22 @@ impl BlockEncoder {
 
     // Where a symbol begins in what is sent, in bytes.
     fn offset(self, o: Open) -> u64
-        requires { ⌜ Valid self × Inside (self .content) o × (is-empty (self .content .partition) o ≡ false) ⌝ }
+        requires { ⌜ ValidEncoder self × Inside (self .content) o × (is-empty (self .content .partition) o ≡ false) ⌝ }
         ensures { λ r. ⌜ r ≡ offset-of (self .content) o ⌝ }
     {
         let p = self.content.partition;
         let k = o.sbn.0 as u64;
         let n = o.esi.0 as u64;
         let e = self.content.sizes.e;
-        if k < p.bigs {
+        if k < p.nb_a_large {
             return (k * p.large + n) * e;
         }
-        (p.bigs * p.large + (k - p.bigs) * p.small + n) * e
+        (p.nb_a_large * p.large + (k - p.nb_a_large) * p.small + n) * e
     }
 
     // Does nothing remain once the block at `at` is as `o` says?
     fn is_last(self, at: usize, o: Open) -> bool
-        requires { ⌜ Valid self × (at < self .filled) ⌝ }
+        requires { ⌜ ValidEncoder self × (at < self .filled) ⌝ }
         ensures { λ r. ⌜ r ≡ last-of self at o ⌝ }
     {
         let p = self.content.partition;
@@ -252,8 +256,8 @@ impl BlockEncoder {
 
     // Where a symbol's bytes stand in the store; the last one may be short.
     fn payload(self, o: Open) -> Part
-        requires { ⌜ Valid self × Inside (self .content) o × (is-empty (self .content .partition) o ≡ false) ⌝ }
-        ensures { λ r. ⌜ r ≡ payload-of (self .content) o ⌝ }
+        requires { ⌜ ValidEncoder self × Inside (self .content) o × (is-empty (self .content .partition) o ≡ false) ⌝ }
+        ensures { λ r. ⌜ r ≡ symbol-payload (self .content) o ⌝ }
     {
         let from = self.offset(o);
         let part = self.content.part;
@@ -267,7 +271,7 @@ impl BlockEncoder {
 
     // Does a symbol of the block at `at` close the transfer? Forced, or it is the last of a transfer that closes.
     fn closes(self, at: usize, o: Open, force: bool) -> bool
-        requires { ⌜ Valid self × (at < self .filled) × (o .esi .0 ≤ 65535) ⌝ }
+        requires { ⌜ ValidEncoder self × (at < self .filled) × (o .esi .0 ≤ largest-block) ⌝ }
         ensures { λ r. ⌜ r ≡ closes-of force self at o ⌝ }
     {
         if force {
@@ -286,7 +290,7 @@ impl BlockEncoder {
 
     // What the block o at a place gives.
     fn shown(self, place: usize, o: Open, close: bool) -> Visit
-        requires { ⌜ Valid self × Inside (self .content) o × (is-empty (self .content .partition) o ≡ false) ⌝ }
+        requires { ⌜ ValidEncoder self × Inside (self .content) o × (is-empty (self .content .partition) o ≡ false) ⌝ }
         ensures { λ r. ⌜ r ≡ shown-of (self .content) place o close ⌝ }
     {
         let sbn = o.sbn;
@@ -309,7 +313,7 @@ impl BlockEncoder {
 
     // The symbol that the block to visit gives.
     fn visit(self, force: bool) -> Visit
-        requires { ⌜ Valid self × (0 < self .filled) × (stuck self ≡ false) ⌝ }
+        requires { ⌜ ValidEncoder self × (0 < self .filled) × (stuck self ≡ false) ⌝ }
         ensures { λ r. ⌜ r ≡ visit-of force self ⌝ }
     {
         let place = self.place();
@@ -320,7 +324,7 @@ impl BlockEncoder {
 
     // With o the block to visit: is the transfer under way, no block to be opened or removed, and more to send after its next symbol?
     fn is_midway(self, o: Open) -> bool
-        requires { ⌜ o ≡ open-at self (place-of self) ⌝ }
+        requires { ⌜ o ≡ open-at self (place-to-visit self) ⌝ }
         ensures { λ r. ⌜ r ≡ midway self ⌝ }
     {
         if self.stopped {
@@ -347,7 +351,7 @@ impl BlockEncoder {
 
     // The next symbol, where reading it only moves its block and the index on: no block is to be opened or removed, and it does not end the transfer.
     pub fn glance(self) -> Glance
-        requires { ⌜ Valid self ⌝ }
+        requires { ⌜ ValidEncoder self ⌝ }
         ensures { λ r. ⌜ r ≡ glance-of self ⌝ }
     {
         let place = self.place();
@@ -362,7 +366,7 @@ impl BlockEncoder {
 
     // A symbol was read: its block is one symbol further, and the index moves on.
     fn moved_on(self, v: Visit) -> BlockEncoder
-        requires { ⌜ Valid self × (v .place < self .filled) × (v .symbol .esi .0 < 65535) ⌝ }
+        requires { ⌜ ValidEncoder self × (v .place < self .filled) × (v .symbol .esi .0 < largest-block) ⌝ }
         ensures { λ r. ⌜ r ≡ moved-of self v ⌝ }
     {
         let i = v.place;
@@ -416,7 +420,7 @@ impl BlockEncoder {
 
     // The next symbol of the transfer, or none. A forced read is the last one, and closes.
     pub fn read(self, force: bool) -> Read
-        requires { ⌜ Valid self ⌝ }
+        requires { ⌜ ValidEncoder self ⌝ }
         ensures { λ r. ⌜ Reads force self r ⌝ }
     {
         if self.stopped {

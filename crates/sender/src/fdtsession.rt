@@ -4,7 +4,7 @@ ghost use mathlib.Core.Bool.{_||_};
 ghost use Rattle.sender.specs.FdtSessionCalls.{FdtRuns, FdtTries, left-of, fdt-idle-of, fdt-begun-of, fdt-sent-of, fdt-attempted-of, fdt-ran-of};
 use crate::blockencoder::BlockEncoder;
 use crate::blockencoder::Emitted;
-use crate::sendersession::Served;
+use crate::sendersession::Outcome;
 use crate::sendersession::no_encoder;
 use lifecycle::announce::Draft;
 use lifecycle::announce::Instance;
@@ -20,9 +20,9 @@ pub struct FdtSession {
 }
 
 // What a run comes to, and whether it took the draft.
-pub struct FdtRan {
+pub struct FdtTurn {
     pub taken: bool,
-    pub answer: Served,
+    pub answer: Outcome,
     pub fdt: Fdt,
     pub session: FdtSession,
 }
@@ -65,14 +65,14 @@ impl FdtSession {
     }
 
     // The next packet of what is in hand; at the end of its transfer it is done. It is never forced.
-    fn send(mut self, mut fdt: Fdt, now: u64, taken: bool) -> FdtRan
+    fn send(mut self, mut fdt: Fdt, now: u64, taken: bool) -> FdtTurn
         requires { ⌜ FdtRuns fdt self ⌝ }
         ensures { λ r. ⌜ r ≡ fdt-sent-of now taken fdt self ⌝ }
     {
         if !self.busy {
-            return FdtRan {
+            return FdtTurn {
                 taken,
-                answer: Served::Idle,
+                answer: Outcome::Idle,
                 fdt,
                 session: self,
             };
@@ -82,25 +82,25 @@ impl FdtSession {
         let Emitted::One(s) = answer else {
             fdt = fdt.fdt_transfer_done(now);
             self = FdtSession::idle();
-            return FdtRan {
+            return FdtTurn {
                 taken,
-                answer: Served::Over,
+                answer: Outcome::Over,
                 fdt,
                 session: self,
             };
         };
         let after = r.encoder;
         self.encoder = after;
-        FdtRan {
+        FdtTurn {
             taken,
-            answer: Served::Sent(s),
+            answer: Outcome::Sent(s),
             fdt,
             session: self,
         }
     }
 
     // With nothing in hand ask for the next FDT; then send.
-    fn attempt(mut self, mut fdt: Fdt, width: usize, now: u64, draft: Draft, taken: bool) -> FdtRan
+    fn attempt(mut self, mut fdt: Fdt, width: usize, now: u64, draft: Draft, taken: bool) -> FdtTurn
         requires { ⌜ FdtTries fdt width draft self ⌝ }
         ensures { λ r. ⌜ r ≡ fdt-attempted-of width now draft taken fdt self ⌝ }
     {
@@ -119,13 +119,13 @@ impl FdtSession {
     }
 
     // On the end of a transfer it goes round again, once.
-    pub(crate) fn run(self, fdt: Fdt, width: usize, now: u64, draft: Draft) -> FdtRan
+    pub(crate) fn run(self, fdt: Fdt, width: usize, now: u64, draft: Draft) -> FdtTurn
         requires { ⌜ FdtTries fdt width draft self ⌝ }
         ensures { λ r. ⌜ r ≡ fdt-ran-of width now draft fdt self ⌝ }
     {
         let a = self.attempt(fdt, width, now, draft, false);
         let answer = a.answer;
-        if let Served::Over = answer {
+        if let Outcome::Over = answer {
             let f = a.fdt;
             let x = a.session;
             return x.attempt(f, width, now, draft, a.taken);

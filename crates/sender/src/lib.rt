@@ -1,7 +1,6 @@
 // The top layer: the encoder, the sessions, and every call from outside.
 pub mod block;
 pub mod blockencoder;
-pub mod drain;
 pub mod fdtsession;
 pub mod payload;
 pub mod sender;

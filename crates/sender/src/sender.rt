@@ -3,15 +3,15 @@ ghost use mathlib.Core.Path.{_≡_};
 ghost use Prim.Native.Nat.{_<_};
 ghost use lib.ListN.{take, getD};
 ghost use Rattle.sizes.specs.Words.{any, given};
-ghost use Rattle.sizes.specs.Limits.{object-slots};
+ghost use Rattle.sizes.specs.Limits.{most-sessions, object-slots};
 ghost use Rattle.lifecycle.specs.Slots.{slot-at};
 ghost use Rattle.lifecycle.specs.FdtCalls.{draft-said};
 ghost use Rattle.sender.specs.SessionCalls.{idle-of};
-ghost use Rattle.sender.specs.SenderCalls.{Valid, has-priority, with-list, with-session, with-fdt-session, answer-of, request-of, admission-said, draft-answer, Reserves, Releases, Adds, Removes, Prompts, Lists, Totals, Completes, Publishes, RunsFdt, RunsFile};
+ghost use Rattle.sender.specs.SenderCalls.{ValidSender, has-priority, with-list, with-session, with-fdt-session, answer-of, request-of, draft-answer, Reserves, Releases, Adds, Removes, Prompts, Lists, CountsTransfers, Completes, Publishes, RunsFdt, RunsFile};
 use crate::blockencoder::Symbol;
 use crate::fdtsession::FdtSession;
+use crate::sendersession::Outcome;
 use crate::sendersession::SenderSession;
-use crate::sendersession::Served;
 use lifecycle::announce::Draft;
 use lifecycle::fdt::Admission;
 use lifecycle::fdt::DraftTest;
@@ -23,10 +23,12 @@ use lifecycle::fdt::Request;
 use lifecycle::fdt::Transfers;
 use lifecycle::fdt::real_draft;
 use lifecycle::filedesc::Carousel;
-use lifecycle::filedesc::Rule;
+use lifecycle::filedesc::Plan;
 use lifecycle::filedesc::Target;
 use lifecycle::filedesc::Time;
 use lifecycle::parts::Part;
+use sizes::limits::MOST_SESSIONS;
+use sizes::refusal::Refusal;
 use sizes::toiallocator::Given;
 use sizes::toiallocator::Known;
 
@@ -36,7 +38,7 @@ pub struct Sender {
     pub fdt: Fdt,
     pub window: usize,
     pub count: usize,
-    pub sessions: [SenderSession; 4],
+    pub sessions: [SenderSession; MOST_SESSIONS],
     pub fdt_session: FdtSession,
 }
 
@@ -61,24 +63,11 @@ pub struct Packet {
     pub symbol: Symbol,
 }
 
-// The number of an admitted object, or why it is refused.
-pub enum AddAnswer {
-    Toi(u64),
-    NoSession,
-    Complete,
-    Sizes,
-    Part,
-    Unknown,
-    Full,
-}
-
 // What a run gives, or why it is refused.
 pub enum RunAnswer {
     Packet(Packet),
     Nothing,
-    Sizes,
-    Part,
-    NoSession,
+    Refused(Refusal),
 }
 
 pub struct Reserving {
@@ -92,12 +81,12 @@ pub struct Releasing {
 }
 
 pub struct Adding {
-    pub answer: AddAnswer,
+    pub answer: Admission,
     pub sender: Sender,
 }
 
 // Yes or no.
-pub struct Telling {
+pub struct Touching {
     pub yes: bool,
     pub sender: Sender,
 }
@@ -115,13 +104,13 @@ pub struct Running {
 }
 
 // The answer of a run of a session.
-fn run_answer(answer: Served, is_fdt: bool, toi: u64, fdt_id: u32) -> RunAnswer
+fn run_answer(answer: Outcome, is_fdt: bool, toi: u64, fdt_id: u32) -> RunAnswer
     ensures { λ r. ⌜ r ≡ answer-of «is_fdt» toi «fdt_id» answer ⌝ }
 {
     match answer {
-        Served::Idle => RunAnswer::Nothing,
-        Served::Over => RunAnswer::Nothing,
-        Served::Sent(symbol) => RunAnswer::Packet(Packet {
+        Outcome::Idle => RunAnswer::Nothing,
+        Outcome::Over => RunAnswer::Nothing,
+        Outcome::Sent(symbol) => RunAnswer::Packet(Packet {
             is_fdt,
             toi,
             fdt_id,
@@ -143,22 +132,8 @@ fn request(o: Object) -> Request
         priority: o.priority,
         part,
         own,
-        rule: Rule::new(o.most, carousel, target, o.stop_at_once),
+        plan: Plan::new(o.most, carousel, target, o.stop_at_once),
         start,
-    }
-}
-
-// The same answer, for the host.
-fn add_answer(a: Admission) -> AddAnswer
-    ensures { λ r. ⌜ r ≡ admission-said a ⌝ }
-{
-    match a {
-        Admission::Toi(t) => AddAnswer::Toi(t),
-        Admission::Complete => AddAnswer::Complete,
-        Admission::Sizes => AddAnswer::Sizes,
-        Admission::Part => AddAnswer::Part,
-        Admission::Unknown => AddAnswer::Unknown,
-        Admission::Full => AddAnswer::Full,
     }
 }
 
@@ -168,8 +143,7 @@ fn is_bad(t: DraftTest) -> bool
 {
     match t {
         DraftTest::Good => false,
-        DraftTest::Sizes => true,
-        DraftTest::Part => true,
+        DraftTest::Refused(_) => true,
     }
 }
 
@@ -179,15 +153,14 @@ fn draft_answer(t: DraftTest) -> RunAnswer
 {
     match t {
         DraftTest::Good => RunAnswer::Nothing,
-        DraftTest::Sizes => RunAnswer::Sizes,
-        DraftTest::Part => RunAnswer::Part,
+        DraftTest::Refused(why) => RunAnswer::Refused(why),
     }
 }
 
 impl Sender {
     // Has a file session this priority?
     fn has_priority(self, priority: u32) -> bool
-        requires { ⌜ Valid self ⌝ }
+        requires { ⌜ ValidSender self ⌝ }
         ensures { λ r. ⌜ r ≡ any (has-priority priority) (take (self .count) (self .sessions)) ⌝ }
     {
         let n = self.count;
@@ -214,7 +187,7 @@ impl Sender {
 
     // File session k.
     fn session_at(self, k: usize) -> SenderSession
-        requires { ⌜ Valid self × (k < self .count) ⌝ }
+        requires { ⌜ ValidSender self × (k < self .count) ⌝ }
         ensures { λ r. ⌜ r ≡ getD (self .sessions) k (idle-of 0) ⌝ }
     {
         let sessions = self.sessions;
@@ -239,7 +212,7 @@ impl Sender {
 
     // The sender with x for file session k.
     fn with_session(mut self, k: usize, x: SenderSession) -> Sender
-        requires { ⌜ k < 4 ⌝ }
+        requires { ⌜ k < most-sessions ⌝ }
         ensures { λ r. ⌜ r ≡ with-session k x self ⌝ }
     {
         let mut sessions = self.sessions;
@@ -250,7 +223,7 @@ impl Sender {
 
     // The next object number, held from now on as a loose reservation.
     pub fn reserve(mut self) -> Reserving
-        requires { ⌜ Valid self ⌝ }
+        requires { ⌜ ValidSender self ⌝ }
         ensures { λ r. ⌜ Reserves self r ⌝ }
     {
         let r = self.fdt.allocate_toi();
@@ -264,7 +237,7 @@ impl Sender {
 
     // A loose reservation is let go.
     pub fn release(mut self, toi: u64) -> Releasing
-        requires { ⌜ Valid self ⌝ }
+        requires { ⌜ ValidSender self ⌝ }
         ensures { λ r. ⌜ Releases toi self r ⌝ }
     {
         let r = self.fdt.release_toi(toi);
@@ -277,26 +250,26 @@ impl Sender {
     }
 
     // The object with this number leaves the list; a session that sends it keeps it.
-    pub fn remove(mut self, toi: u64) -> Telling
-        requires { ⌜ Valid self ⌝ }
+    pub fn remove(mut self, toi: u64) -> Touching
+        requires { ⌜ ValidSender self ⌝ }
         ensures { λ r. ⌜ Removes toi self r ⌝ }
     {
         let r = self.fdt.remove_object(toi);
         self = self.with_fdt(r.fdt);
-        Telling {
+        Touching {
             yes: r.yes,
             sender: self,
         }
     }
 
     // The object with this number may start anew, at the named start if one is given; one in transfer stays as it is.
-    pub fn trigger(mut self, toi: u64, start: Time) -> Telling
-        requires { ⌜ Valid self ⌝ }
+    pub fn trigger(mut self, toi: u64, start: Time) -> Touching
+        requires { ⌜ ValidSender self ⌝ }
         ensures { λ r. ⌜ Prompts toi start self r ⌝ }
     {
         let r = self.fdt.trigger_transfer_at(toi, start);
         self = self.with_fdt(r.fdt);
-        Telling {
+        Touching {
             yes: r.yes,
             sender: self,
         }
@@ -304,7 +277,7 @@ impl Sender {
 
     // Is an object with this number listed?
     pub fn listed(self, toi: u64) -> bool
-        requires { ⌜ Valid self ⌝ }
+        requires { ⌜ ValidSender self ⌝ }
         ensures { λ r. ⌜ Lists toi self r ⌝ }
     {
         self.fdt.is_added(toi)
@@ -312,15 +285,15 @@ impl Sender {
 
     // How often the listed object with this number was sent.
     pub fn transfers(self, toi: u64) -> Transfers
-        requires { ⌜ Valid self ⌝ }
-        ensures { λ r. ⌜ Totals toi self r ⌝ }
+        requires { ⌜ ValidSender self ⌝ }
+        ensures { λ r. ⌜ CountsTransfers toi self r ⌝ }
     {
         self.fdt.nb_transfers(toi)
     }
 
     // From now on no object is added.
     pub fn complete(mut self) -> Sender
-        requires { ⌜ Valid self ⌝ }
+        requires { ⌜ ValidSender self ⌝ }
         ensures { λ r. ⌜ Completes self r ⌝ }
     {
         self.fdt = self.fdt.set_complete();
@@ -329,7 +302,7 @@ impl Sender {
 
     // The part is queued as the next FDT, and every listed object is published.
     pub fn publish(mut self, now: u64, part: Part) -> Publishing
-        requires { ⌜ Valid self ⌝ }
+        requires { ⌜ ValidSender self ⌝ }
         ensures { λ r. ⌜ Publishes now part self r ⌝ }
     {
         let r = self.fdt.publish(now, part);
@@ -343,12 +316,12 @@ impl Sender {
 
     // An object is listed, under the reservation that it names or the next number.
     pub fn add(mut self, o: Object, named: Named) -> Adding
-        requires { ⌜ Valid self ⌝ }
+        requires { ⌜ ValidSender self ⌝ }
         ensures { λ r. ⌜ Adds o named self r ⌝ }
     {
         if !self.has_priority(o.priority) {
             return Adding {
-                answer: AddAnswer::NoSession,
+                answer: Admission::Refused(Refusal::NoPriority),
                 sender: self,
             };
         }
@@ -356,14 +329,14 @@ impl Sender {
         let answer = r.answer;
         self = self.with_fdt(r.fdt);
         Adding {
-            answer: add_answer(answer),
+            answer,
             sender: self,
         }
     }
 
     // The FDT session, with a draft or none.
     pub fn run_fdt(mut self, now: u64, draft: Draft) -> Running
-        requires { ⌜ Valid self ⌝ }
+        requires { ⌜ ValidSender self ⌝ }
         ensures { λ r. ⌜ RunsFdt now draft self r ⌝ }
     {
         let d = real_draft(draft);
@@ -388,13 +361,13 @@ impl Sender {
 
     // File session i.
     pub fn run(mut self, i: u64, now: u64) -> Running
-        requires { ⌜ Valid self ⌝ }
+        requires { ⌜ ValidSender self ⌝ }
         ensures { λ r. ⌜ RunsFile i now self r ⌝ }
     {
         if self.count as u64 <= i {
             return Running {
                 taken: false,
-                answer: RunAnswer::NoSession,
+                answer: RunAnswer::Refused(Refusal::NoSession),
                 sender: self,
             };
         }

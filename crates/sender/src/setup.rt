@@ -1,10 +1,10 @@
 // Set-up: what is named once, its ranges, and the sender before the first call.
 ghost use mathlib.Core.Path.{_≡_};
 ghost use Prim.Native.Nat.{_<_, _≤_};
-ghost use Rattle.sizes.specs.Limits.{largest-fdt-id};
+ghost use Rattle.sizes.specs.Limits.{most-sessions, largest-fdt-id};
 ghost use Rattle.sizes.specs.Allocator.{bits};
 ghost use Rattle.lifecycle.specs.Setup.{sound};
-ghost use Rattle.sender.specs.SetupCalls.{setup-said, width-said, is-interval, interval-in, settings-of, priority-at, opening-of, plain, refused-of, Opens};
+ghost use Rattle.sender.specs.SetupCalls.{setup-said, width-said, is-interval, interval-in, settings-of, priority-at, opening-sender, plain, refused-of, Opens};
 use crate::fdtsession::FdtSession;
 use crate::sender::Sender;
 use crate::sendersession::SenderSession;
@@ -12,9 +12,20 @@ use lifecycle::fdt::Fdt;
 use lifecycle::fdt::Settings;
 use lifecycle::fdt::are_sound_sizes;
 use lifecycle::fdt::is_within;
+use sizes::limits::LARGEST_FDT_ID;
+use sizes::limits::LARGEST_WINDOW;
+use sizes::limits::LONGEST_STORE;
+use sizes::limits::MOST_SESSIONS;
 use sizes::partition::Sizes;
 use sizes::toiallocator::ToiAllocator;
 use sizes::toiallocator::ToiMaxLength;
+
+// The limits of numbers that a set-up names in 64 bits.
+const LARGEST_NAMED_COUNT: u64 = MOST_SESSIONS as u64;
+
+const LARGEST_NAMED_WINDOW: u64 = LARGEST_WINDOW as u64;
+
+const LARGEST_NAMED_ID: u64 = LARGEST_FDT_ID as u64;
 
 // An FDT is sent again a delay after its last end, or an interval after its last start.
 pub enum FdtCarousel {
@@ -27,7 +38,7 @@ pub struct Setup {
     pub sizes: Sizes,
     pub window: u64,
     pub count: u64,
-    pub priorities: [u32; 4],
+    pub priorities: [u32; MOST_SESSIONS],
     pub width: u64,
     pub first_toi: u64,
     pub first_fdt_id: u64,
@@ -65,26 +76,26 @@ fn width_of(n: u64) -> Width
 fn is_sound(z: Setup) -> bool
     ensures { λ r. ⌜ r ≡ sound (setup-said z) ⌝ }
 {
-    if !is_within(1, 4, z.count) {
+    if !is_within(1, LARGEST_NAMED_COUNT, z.count) {
         return false;
     }
-    if !is_within(1, 16, z.window) {
+    if !is_within(1, LARGEST_NAMED_WINDOW, z.window) {
         return false;
     }
     let sizes = z.sizes;
     if !are_sound_sizes(sizes) {
         return false;
     }
-    if 0x100_0000_0000 < z.object_store {
+    if LONGEST_STORE < z.object_store {
         return false;
     }
-    if 0x100_0000_0000 < z.fdt_store {
+    if LONGEST_STORE < z.fdt_store {
         return false;
     }
     if let Width::Bad = width_of(z.width) {
         return false;
     }
-    z.first_fdt_id <= 0xF_FFFF
+    z.first_fdt_id <= LARGEST_NAMED_ID
 }
 
 // Does the carousel count from the last start?
@@ -123,8 +134,8 @@ fn settings(z: Setup) -> Settings
 }
 
 // The priority of session i; zero past the sessions in use.
-fn priority_of(priorities: [u32; 4], n: u64, i: usize) -> u32
-    requires { ⌜ i < 4 ⌝ }
+fn priority_of(priorities: [u32; MOST_SESSIONS], n: u64, i: usize) -> u32
+    requires { ⌜ i < most-sessions ⌝ }
     ensures { λ r. ⌜ r ≡ priority-at priorities n i ⌝ }
 {
     if (i as u64) < n { priorities[i] } else { 0 }
@@ -133,7 +144,7 @@ fn priority_of(priorities: [u32; 4], n: u64, i: usize) -> u32
 // The sender before the first call: nothing is held, and every session is idle.
 fn open(z: Setup, w: ToiMaxLength) -> Sender
     requires { ⌜ (z .width ≡ bits w) × (z .«first_fdt_id» ≤ largest-fdt-id) ⌝ }
-    ensures { λ r. ⌜ r ≡ opening-of z ⌝ }
+    ensures { λ r. ⌜ r ≡ opening-sender z ⌝ }
 {
     let tois = ToiAllocator::new(w, z.first_toi);
     let p = z.priorities;
@@ -160,7 +171,7 @@ fn plain_setup() -> Setup
         sizes: Sizes { e: 1, b: 1 },
         window: 1,
         count: 1,
-        priorities: [0; 4],
+        priorities: [0; MOST_SESSIONS],
         width: 16,
         first_toi: 1,
         first_fdt_id: 0,

@@ -1,4 +1,4 @@
--- Laws of the allocator: what each call makes of the entries in use, and that it keeps Valid.
+-- Laws of the allocator: what each call makes of the entries in use, and that the allocator stays valid.
 use mathlib.Core.Path.{_≡_, refl, sym, _∙_, ap, subst}
 use mathlib.Core.Bool.{Bool, true, false, not}
 use mathlib.Core.Option.{Option, none, some}
@@ -11,10 +11,10 @@ use lib.Dec.{eqb, ltb, lit≤}
 use lib.ListN.{length, set, getD, replicate, length-set, length-replicate, length-append, length-map}
 use lib.Seq.{getD-set-other, take-suc-set, take-set-lt, length-take-le}
 use borrow.Author.Tests.{eqb-true, ltb-true, lt-ltb, le-ltb}
-use Rattle.sizes.specs.Words.{if_then_else_, maybe, over, given, cut, place, collect, Each, has, one-if, times, Hit}
+use Rattle.sizes.specs.Words.{if_then_else_, maybe, over, given, cut, place, collect, Each, has, one-if, times}
 use Rattle.sizes.specs.Limits.{toi-entries}
 use Rattle.sizes.specs.Toi.{skip-zero, cut-to, first-toi, after, free-from, next-toi, Toi}
-use Rattle.sizes.specs.Allocator.{bits, Width, noted, held, loose-in, loose, no-entry, entry-is, opening, noting, moved-on, allocated-of, bound-at, Fresh, without, unchanged, changed, claimed-of, dropped-of, Valid, Searchable, Opened, Gives, Becomes}
+use Rattle.sizes.specs.Allocator.{bits, Width, noted, held, loose-in, loose, no-entry, entry-is, new-allocator, noting, moved-on, allocated-of, bound-at, Fresh, entry-gone, unchanged, changed, claimed-of, dropped-of, ValidAllocator, Searchable, Opened, Gives, Becomes}
 use Rattle.sizes.specs.declared.toiallocator.ToiMaxLength.{ToiMaxLength}
 use Rattle.sizes.specs.declared.toiallocator.ToiMaxLength.the-variants.{ToiMax16, ToiMax32, ToiMax48, ToiMax64}
 use Rattle.sizes.specs.declared.toiallocator.Entry.{Entry}
@@ -23,7 +23,7 @@ use Rattle.sizes.specs.declared.toiallocator.Given.{Given}
 use Rattle.sizes.specs.declared.toiallocator.Allocated.{Allocated}
 use Rattle.sizes.specs.declared.toiallocator.Changed.{Changed}
 use Rattle.sizes.proofs.Tests.{Tested, pass, fail, tested, and-left, none≢some}
-use Rattle.sizes.proofs.Lists.{Sought, hit, miss, sought, at-take, each-append, each-cut, map-append, map-cut, map-set-same, times-append, times-cut, has-none, has-cut}
+use Rattle.sizes.proofs.Lists.{Hit, Sought, hit, miss, sought, at-take, each-append, each-cut, map-append, map-cut, map-set-same, times-append, times-cut, has-none, has-cut}
 use Rattle.sizes.proofs.Arrays.{getD-shut, take-shut, length-shut}
 use Rattle.sizes.proofs.ToiLaws.{first-range, next-range, next-free, next-first}
 
@@ -57,7 +57,7 @@ cut-64 w n u = subst (λ k. n % 2 ^ 64 % 2 ^ k ≡ n % 2 ^ k) (sym (u .1)) (mod-
     go ToiMax64 = dvd-of-mod-eq-zero (2 ^ 64) refl
 
 -- as many numbers are held as entries are in use
-pub held-length : (a : ToiAllocator) → Valid a → length (held a) ≡ a .entered
+pub held-length : (a : ToiAllocator) → ValidAllocator a → length (held a) ≡ a .entered
 held-length a v = length-map (noted a) (λ (e : Entry). e .toi) ∙ length-take-le (a .entered) (a .entries) (let h = v .sized in let g = v .room in omega arith)
 
 -- one more number that was not in the list
@@ -71,14 +71,14 @@ once-more l t o f n = go (tested (eqb t n))
         let c : times n l ≡ 0 = subst (λ m. times m l ≡ 0) (eqb-true t n e) (has-none t l f) in omega arith
     go (fail e) = let a = times-append n l (t ∷ []) in let b = ap one-if e in let c = o n in omega arith
 
-pub valid-opening : (w : ToiMaxLength) (n : ℕ) → Valid (opening (bits w) n)
-unfolding opening
+pub valid-opening : (w : ToiMaxLength) (n : ℕ) → ValidAllocator (new-allocator (bits w) n)
+unfolding new-allocator
 valid-opening w n =
     record {
       wide = (w, refl);
-      sized = length-replicate 64 no-entry;
+      sized = length-replicate toi-entries no-entry;
       room = omega arith;
-      clear = λ i h. blank 64 i;
+      clear = λ i h. blank toi-entries i;
       once = λ m. omega arith;
       ranged = tt;
       next-ranged = first-range (bits w) n (width-16 (bits w) (w, refl));
@@ -90,7 +90,7 @@ valid-opening w n =
     blank (suc k) zero = refl
     blank (suc k) (suc i) = blank k i
 
-module _ (a : ToiAllocator) (v : Valid a) where
+module _ (a : ToiAllocator) (v : ValidAllocator a) where
   pub noted-noting : (flag : Bool) → a .entered < toi-entries → noted (noting flag a) ≡ noted a ++ (record { toi = a .next; loose = flag } ∷ [])
   unfolding noting
   noted-noting flag h = rw (add-one (a .entered)) (take-suc-set (a .entries) (a .entered) _ (let g = v .sized in omega arith))
@@ -104,7 +104,7 @@ module _ (a : ToiAllocator) (v : Valid a) where
       let y = length-append (held a) (a .next ∷ []) in
       let z = held-length a v in omega arith
 
-  valid-given : (flag : Bool) → a .entered < toi-entries → Valid (moved-on (noting flag a))
+  valid-given : (flag : Bool) → a .entered < toi-entries → ValidAllocator (moved-on (noting flag a))
   unfolding moved-on noting
   valid-given flag h =
       let e = held-noting flag h in
@@ -120,12 +120,12 @@ module _ (a : ToiAllocator) (v : Valid a) where
         next-free = next-free (a .width) (held (noting flag a)) (a .next) w (held-room flag h);
       }
 
-  pub valid-allocated : (flag : Bool) → Valid (allocated-of flag a .allocator)
+  pub valid-allocated : (flag : Bool) → ValidAllocator (allocated-of flag a .allocator)
   unfolding allocated-of
   valid-allocated flag = go (tested (ltb (a .entered) toi-entries))
     where
       go : Tested (ltb (a .entered) toi-entries)
-          → Valid (if_then_else_ {A = Allocated} (ltb (a .entered) toi-entries) (record { answer = Given.Number (a .next); allocator = moved-on (noting flag a) }) (record { answer = Given.Full; allocator = a }) .allocator)
+          → ValidAllocator (if_then_else_ {A = Allocated} (ltb (a .entered) toi-entries) (record { answer = Given.Number (a .next); allocator = moved-on (noting flag a) }) (record { answer = Given.Full; allocator = a }) .allocator)
       go (pass e) = rw e (valid-given flag (ltb-true (a .entered) toi-entries e))
       go (fail e) = rw e v
 
@@ -164,7 +164,7 @@ module _ (a : ToiAllocator) (v : Valid a) where
     pub held-bound : held (bound-at a t i) ≡ held a
     held-bound = ap (map (λ (x : Entry). x .toi)) noted-bound ∙ map-set-same (λ (x : Entry). x .toi) (noted a) i _ e (h .stands) (sym named)
 
-    pub valid-bound : Valid (bound-at a t i)
+    pub valid-bound : ValidAllocator (bound-at a t i)
     unfolding bound-at
     valid-bound =
         let q = inside in
@@ -180,15 +180,15 @@ module _ (a : ToiAllocator) (v : Valid a) where
         }
 
     -- the entry is gone, and the others keep their order
-    pub noted-without : noted (without a i) ≡ cut (noted a) i
-    unfolding without
+    pub noted-without : noted (entry-gone a i) ≡ cut (noted a) i
+    unfolding entry-gone
     noted-without = take-shut no-entry (a .entries) i (a .entered) inside (let g = v .sized in let r = v .room in omega arith)
 
-    pub held-without : held (without a i) ≡ cut (held a) i
+    pub held-without : held (entry-gone a i) ≡ cut (held a) i
     held-without = ap (map (λ (x : Entry). x .toi)) noted-without ∙ map-cut (λ (x : Entry). x .toi) (noted a) i
 
-    pub valid-without : Valid (without a i)
-    unfolding without
+    pub valid-without : ValidAllocator (entry-gone a i)
+    unfolding entry-gone
     valid-without =
         let q = inside in
         record {
@@ -202,19 +202,19 @@ module _ (a : ToiAllocator) (v : Valid a) where
           next-free = subst (λ l. has (a .next) l ≡ false) (sym held-without) (has-cut (a .next) (held a) i (v .next-free));
         }
 
-  pub valid-claimed : (t : ℕ) → Valid (claimed-of t a .allocator)
+  pub valid-claimed : (t : ℕ) → ValidAllocator (claimed-of t a .allocator)
   unfolding claimed-of
   valid-claimed t = go (sought (entry-is t true) (noted a))
     where
-      go : Sought (entry-is t true) (noted a) → Valid (maybe (unchanged a) (λ i. changed (bound-at a t i)) (place (entry-is t true) (noted a)) .allocator)
+      go : Sought (entry-is t true) (noted a) → ValidAllocator (maybe (unchanged a) (λ i. changed (bound-at a t i)) (place (entry-is t true) (noted a)) .allocator)
       go (hit i e h) = rw (h .found) (valid-bound t true i e h)
       go (miss p u) = rw p v
 
-  pub valid-dropped : (flag : Bool) (t : ℕ) → Valid (dropped-of flag t a .allocator)
+  pub valid-dropped : (flag : Bool) (t : ℕ) → ValidAllocator (dropped-of flag t a .allocator)
   unfolding dropped-of
   valid-dropped flag t = go (sought (entry-is t flag) (noted a))
     where
-      go : Sought (entry-is t flag) (noted a) → Valid (maybe (unchanged a) (λ i. changed (without a i)) (place (entry-is t flag) (noted a)) .allocator)
+      go : Sought (entry-is t flag) (noted a) → ValidAllocator (maybe (unchanged a) (λ i. changed (entry-gone a i)) (place (entry-is t flag) (noted a)) .allocator)
       go (hit i e h) = rw (h .found) (valid-without t flag i e h)
       go (miss p u) = rw p v
 
@@ -251,7 +251,7 @@ pub claimed-none : (a : ToiAllocator) (t : ℕ) → place (entry-is t true) (not
 unfolding claimed-of
 claimed-none a t p = rw p
 
-pub dropped-some : (a : ToiAllocator) (flag : Bool) (t i : ℕ) → place (entry-is t flag) (noted a) ≡ some i → dropped-of flag t a ≡ changed (without a i)
+pub dropped-some : (a : ToiAllocator) (flag : Bool) (t i : ℕ) → place (entry-is t flag) (noted a) ≡ some i → dropped-of flag t a ≡ changed (entry-gone a i)
 unfolding dropped-of
 dropped-some a flag t i p = rw p
 
@@ -259,8 +259,8 @@ pub dropped-none : (a : ToiAllocator) (flag : Bool) (t : ℕ) → place (entry-i
 unfolding dropped-of
 dropped-none a flag t p = rw p
 
-pub becomes : (s r : Changed) → r ≡ s → Valid (s .allocator) → Becomes s r
-becomes s r e v = record { exact = e; valid = subst (λ (x : Changed). Valid (x .allocator)) (sym e) v }
+pub becomes : (s r : Changed) → r ≡ s → ValidAllocator (s .allocator) → Becomes s r
+becomes s r e v = record { exact = e; valid = subst (λ (x : Changed). ValidAllocator (x .allocator)) (sym e) v }
 
 -- the search for the next number, where it begins
 pub search-start : (a : ToiAllocator) → Searchable a → {n : ℕ} → n ≡ after (a .width) (a .next)
@@ -281,23 +281,23 @@ pub full-by : (a : ToiAllocator) (flag : Bool) → toi-entries ≤ a .entered �
 unfolding allocated-of
 full-by a flag h = rw (le-ltb (a .entered) toi-entries h)
 
-pub gives : (a : ToiAllocator) (flag : Bool) (r : Allocated) → Valid a → r ≡ allocated-of flag a → Gives flag a r
-gives a flag r v e = record { exact = e; valid = subst (λ (x : Allocated). Valid (x .allocator)) (sym e) (valid-allocated a v flag) }
+pub gives : (a : ToiAllocator) (flag : Bool) (r : Allocated) → ValidAllocator a → r ≡ allocated-of flag a → Gives flag a r
+gives a flag r v e = record { exact = e; valid = subst (λ (x : Allocated). ValidAllocator (x .allocator)) (sym e) (valid-allocated a v flag) }
 
 -- after noting one more, the entries can be searched
-pub searchable : (a : ToiAllocator) (flag : Bool) → Valid a → a .entered < toi-entries → Searchable (noting flag a)
+pub searchable : (a : ToiAllocator) (flag : Bool) → ValidAllocator a → a .entered < toi-entries → Searchable (noting flag a)
 unfolding noting
 searchable a flag v h = record { wide = v .wide; sized = length-set (a .entries) (a .entered) _ ∙ v .sized; room = omega arith }
 
 -- what new makes, put together from its steps
 pub opened-by : (w : ToiMaxLength) (first width low cut next : ℕ) → width ≡ bits w → low ≡ skip-zero first → cut ≡ low % 2 ^ width → next ≡ skip-zero cut
     → Opened w first (record { entries = replicate toi-entries no-entry; entered = 0; next = next; width = width })
-unfolding first-toi cut-to opening
+unfolding first-toi cut-to new-allocator
 opened-by w first width low cut next e f g h =
-    record { exact = made; valid = subst Valid (sym made) (valid-opening w first) }
+    record { exact = made; valid = subst ValidAllocator (sym made) (valid-opening w first) }
   where
     open-toi : next ≡ first-toi (bits w) first
     open-toi = rw (h, g, f, e)
 
-    made : record { entries = replicate toi-entries no-entry; entered = 0; next = next; width = width } ≡ opening (bits w) first
+    made : record { entries = replicate toi-entries no-entry; entered = 0; next = next; width = width } ≡ new-allocator (bits w) first
     made = rw (open-toi, e)

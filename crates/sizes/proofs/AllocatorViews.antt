@@ -5,17 +5,28 @@ use mathlib.Core.Option.{Option, none, some}
 use mathlib.Core.List.{List, [], _∷_, _++_, map, append-nil}
 use Prim.Native.Nat.{ℕ, suc, _+_, _≤_, _<_}
 use native.Mathlib.Omega.{arith}
-use lib.Dec.{eqb}
+use lib.Dec.{eqb, ltb}
 use borrow.Author.Tests.{eqb-true, not-true, lt-ltb, le-ltb}
 use Rattle.sizes.specs.Words.{if_then_else_, maybe, given, keep, has, at, place, collect, one-if, times}
 use Rattle.sizes.specs.Limits.{toi-entries}
-use Rattle.sizes.specs.Allocator.{noted, held, loose-in, bound-in, loose, bound, entry-is, opening, noting, moved-on, allocated-of, bound-at, without, unchanged, changed, claimed-of, dropped-of, Freed, Valid}
+use Rattle.sizes.specs.Allocator.{noted, held, loose-in, bound-in, loose, bound, entry-is, new-allocator, noting, moved-on, allocated-of, bound-at, entry-gone, unchanged, changed, claimed-of, dropped-of, ValidAllocator}
 use Rattle.sizes.specs.declared.toiallocator.Entry.{Entry}
 use Rattle.sizes.specs.declared.toiallocator.ToiAllocator.{ToiAllocator}
-use Rattle.sizes.proofs.Tests.{and-left, and-right}
+use Rattle.sizes.specs.Toi.{first-toi, next-toi}
+use Rattle.sizes.specs.declared.toiallocator.Allocated.{Allocated}
+use Rattle.sizes.specs.declared.toiallocator.Changed.{Changed}
+use Rattle.sizes.specs.declared.toiallocator.Given.the-variants.{Number, Full}
+use Rattle.sizes.specs.declared.toiallocator.Known.the-variants.{Done}
+use Rattle.sizes.proofs.Tests.{and-left, and-right, if-on, maybe-on}
 use Rattle.sizes.proofs.Lists.{Sought, hit, miss, sought, has-none}
 use Rattle.sizes.proofs.Collects.{keep-absent, adds, collect-append, collect-skip, collect-unset, collect-cons, collect-cut, collect-set, collect-keep}
 use Rattle.sizes.proofs.AllocatorLaws.{noted-noting, noted-bound, noted-without, loose-found}
+
+-- an object's number is gone
+pub record Freed (t : ℕ) (a b : ToiAllocator) : Type 0 where
+  pub next-same : b .next ≡ a .next
+  pub loose-same : loose b ≡ loose a
+  pub one-less : (n : ℕ) → times n (bound b) + one-if (eqb t n) ≡ times n (bound a)
 
 -- a number that is held is loose or an object's
 split-in : (n : ℕ) (l : List Entry) → times n (map (λ (e : Entry). e .toi) l) ≡ times n (collect loose-in l) + times n (collect bound-in l)
@@ -71,14 +82,50 @@ pub allocated-full : (a : ToiAllocator) (flag : Bool) → toi-entries ≤ a .ent
 unfolding allocated-of
 allocated-full a flag h = rw (le-ltb (a .entered) toi-entries h)
 
+-- a call of allocate, case by case: it gives the stored next number, or all entries are in use and nothing changes
+pub allocated-cases : (P : Allocated → Type 0) (flag : Bool) (a : ToiAllocator)
+    → (ltb (a .entered) toi-entries ≡ true → P (record { answer = Number (a .next); allocator = moved-on (noting flag a) }))
+    → (ltb (a .entered) toi-entries ≡ false → P (record { answer = Full; allocator = a })) → P (allocated-of flag a)
+unfolding allocated-of
+allocated-cases P flag a fresh full = if-on P (ltb (a .entered) toi-entries) fresh full
+
+-- a call of release or free, case by case: the entry is gone, or there is none and nothing changes
+pub dropped-cases : (P : Changed → Type 0) (flag : Bool) (t : ℕ) (a : ToiAllocator) → P (unchanged a) → ((i : ℕ) → P (changed (entry-gone a i))) → P (dropped-of flag t a)
+unfolding dropped-of
+dropped-cases P flag t a still gone = maybe-on P (place (entry-is t flag) (noted a)) (λ e. still) (λ i e. gone i)
+
+-- the number that comes next once the stored one is noted
+pub given-next : (flag : Bool) (a : ToiAllocator) → moved-on (noting flag a) .next ≡ next-toi (a .width) (held (noting flag a)) (a .next)
+unfolding moved-on noting
+given-next flag a = refl
+
+-- the width of the numbers stays
+module _ (a : ToiAllocator) where
+  pub allocated-width : (flag : Bool) → allocated-of flag a .allocator .width ≡ a .width
+  unfolding moved-on noting
+  allocated-width flag = allocated-cases (λ (x : Allocated). x .allocator .width ≡ a .width) flag a (λ e. refl) (λ e. refl)
+
+  pub claimed-width : (t : ℕ) → claimed-of t a .allocator .width ≡ a .width
+  unfolding claimed-of bound-at
+  claimed-width t = maybe-on (λ (x : Changed). x .allocator .width ≡ a .width) (place (entry-is t true) (noted a)) (λ e. refl) (λ i e. refl)
+
+  pub dropped-width : (flag : Bool) (t : ℕ) → dropped-of flag t a .allocator .width ≡ a .width
+  unfolding entry-gone
+  dropped-width flag t = dropped-cases (λ (x : Changed). x .allocator .width ≡ a .width) flag t a refl (λ i. refl)
+
 -- the loose ones without t
 abbrev pub but : ℕ → List ℕ → List ℕ
 but t = keep (λ u. not (eqb u t))
 
 -- before the first call no number is held
-pub opened-view : (w n : ℕ) → (loose (opening w n) ≡ []) × (bound (opening w n) ≡ [])
-unfolding opening
+pub opened-view : (w n : ℕ) → (loose (new-allocator w n) ≡ []) × (bound (new-allocator w n) ≡ [])
+unfolding new-allocator
 opened-view w n = (refl, refl)
+
+-- the first number, and the width
+pub opened-next : (w n : ℕ) → (new-allocator w n .next ≡ first-toi w n) × (new-allocator w n .width ≡ w)
+unfolding new-allocator
+opened-next w n = (refl, refl)
 
 -- a loose reservation is gone
 pub record Released (t : ℕ) (a b : ToiAllocator) : Type 0 where
@@ -92,7 +139,7 @@ pub record Claimed (t : ℕ) (a b : ToiAllocator) : Type 0 where
   pub loose-left : loose b ≡ but t (loose a)
   pub one-more : (n : ℕ) → times n (bound b) ≡ times n (bound a) + one-if (eqb t n)
 
-module _ (a : ToiAllocator) (v : Valid a) where
+module _ (a : ToiAllocator) (v : ValidAllocator a) where
   noted-given : (flag : Bool) → a .entered < toi-entries → noted (moved-on (noting flag a)) ≡ noted a ++ (record { toi = a .next; loose = flag } ∷ [])
   unfolding moved-on
   noted-given flag h = noted-noting a v flag h
@@ -117,13 +164,13 @@ module _ (a : ToiAllocator) (v : Valid a) where
 
   -- release: where the number is not loose, nothing changes
   pub released-view : (t : ℕ) → Released t a (dropped-of true t a .allocator)
-  unfolding dropped-of without
+  unfolding dropped-of entry-gone
   released-view t = go (sought (entry-is t true) (noted a))
     where
       absent : place (entry-is t true) (noted a) ≡ none → times t (loose a) ≡ 0
       absent p = has-none t (loose a) (sym (loose-found t (noted a)) ∙ ap given p)
 
-      go : Sought (entry-is t true) (noted a) → Released t a (maybe (unchanged a) (λ i. changed (without a i)) (place (entry-is t true) (noted a)) .allocator)
+      go : Sought (entry-is t true) (noted a) → Released t a (maybe (unchanged a) (λ i. changed (entry-gone a i)) (place (entry-is t true) (noted a)) .allocator)
       go (miss p u) = rw p (record { next-same = refl; loose-left = sym (keep-absent t (loose a) (absent p)); bound-same = refl })
       go (hit i e h) = rw (h .found) (
           let q = noted-without a v t true i e h in
@@ -155,10 +202,10 @@ module _ (a : ToiAllocator) (v : Valid a) where
 
   -- free
   pub freed-view : (t : ℕ) → 1 ≤ times t (bound a) → Freed t a (dropped-of false t a .allocator)
-  unfolding dropped-of without
+  unfolding dropped-of entry-gone
   freed-view t l = go (sought (entry-is t false) (noted a))
     where
-      go : Sought (entry-is t false) (noted a) → Freed t a (maybe (unchanged a) (λ i. changed (without a i)) (place (entry-is t false) (noted a)) .allocator)
+      go : Sought (entry-is t false) (noted a) → Freed t a (maybe (unchanged a) (λ i. changed (entry-gone a i)) (place (entry-is t false) (noted a)) .allocator)
       go (miss p u) = let z = bound-none t (noted a) u in absurd (omega arith)
       go (hit i e h) = rw (h .found) (
           let q = noted-without a v t false i e h in
@@ -177,6 +224,11 @@ pub released-none : (a : ToiAllocator) (t : ℕ) → has t (loose a) ≡ false �
 unfolding dropped-of
 released-none a t h = go (place (entry-is t true) (noted a)) refl
   where
-    go : (o : Option ℕ) → place (entry-is t true) (noted a) ≡ o → maybe (unchanged a) (λ i. changed (without a i)) (place (entry-is t true) (noted a)) ≡ unchanged a
+    go : (o : Option ℕ) → place (entry-is t true) (noted a) ≡ o → maybe (unchanged a) (λ i. changed (entry-gone a i)) (place (entry-is t true) (noted a)) ≡ unchanged a
     go none p = rw p
     go (some i) p = absurd (true≢false (ap given (sym p) ∙ loose-found t (noted a) ∙ h))
+
+pub released-some : (a : ToiAllocator) (t : ℕ) → has t (loose a) ≡ true → dropped-of true t a .answer ≡ Done
+unfolding dropped-of
+released-some a t h = maybe-on (λ (x : Changed). x .answer ≡ Done) (place (entry-is t true) (noted a))
+    (λ e. absurd (false≢true (ap given (sym e) ∙ loose-found t (noted a) ∙ h))) (λ i e. refl)

@@ -6,7 +6,7 @@ use mathlib.Core.List.{List, [], _∷_, _++_, map}
 use Prim.Native.Nat.{ℕ, zero, suc, _+_, _-_, _≤_, _<_}
 use native.Mathlib.Omega.{arith}
 use native.Mathlib.Numerals.{add-one}
-use lib.ListN.{length, set, getD, take, drop, drop-of-length-le}
+use lib.ListN.{length, set, getD, take, drop, drop-of-length-le, length-set}
 use lib.Seq.{drop-cons, getD-take, length-take-le}
 use Rattle.sizes.specs.Words.{over, any, all, cut, place, shut, Each}
 
@@ -115,8 +115,8 @@ module _ {A : Type 0} (z : A) where
       end (a ∷ l) = ap suc (end l)
   length-shut (a ∷ l) (suc i) h = ap suc (length-shut l i (omega arith))
 
-  -- a loop that moves each later element up by one, a turn for each: what is left to do comes to the same
-  pub shut-more : (l : List A) (j : ℕ) → j + 1 < length l → shut z (set l j (getD l (j + 1) z)) (j + 1) ≡ shut z l j
+  -- each later element moves up by one, a turn for each: what is left to do comes to the same
+  shut-more : (l : List A) (j : ℕ) → j + 1 < length l → shut z (set l j (getD l (j + 1) z)) (j + 1) ≡ shut z l j
   shut-more l j h = rw add-one (go l j (rw add-one at h))
     where
       go : (l : List A) (j : ℕ) → suc j < length l → shut z (set l j (getD l (suc j) z)) (suc j) ≡ shut z l j
@@ -125,11 +125,27 @@ module _ {A : Type 0} (z : A) where
       go (x ∷ y ∷ l) zero h = refl
       go (x ∷ y ∷ l) (suc j) h = ap (λ t. x ∷ t) (go (y ∷ l) j (omega arith))
 
-  pub shut-end : (l : List A) (j : ℕ) → length l ≡ j + 1 → set l j z ≡ shut z l j
+  shut-end : (l : List A) (j : ℕ) → length l ≡ j + 1 → set l j z ≡ shut z l j
   shut-end [] j h = absurd (omega arith)
   shut-end (x ∷ []) zero h = refl
   shut-end (x ∷ y ∷ l) zero h = absurd (omega arith)
   shut-end (x ∷ l) (suc j) h = ap (λ t. x ∷ t) (shut-end l j (omega arith))
+
+  -- a loop that closes the gap at i of an array l whose last place is `last`: m is what it has when place j is the gap
+  pub record Closing (last : ℕ) (l : List A) (i : ℕ) (m : List A) (j : ℕ) : Type 0 where
+    pub low : j ≤ last
+    pub sized : length m ≡ last + 1
+    pub same : shut z m j ≡ shut z l i
+
+  module _ {last : ℕ} {l : List A} {i : ℕ} where
+    pub closing-starts : i ≤ last → length l ≡ last + 1 → Closing last l i l i
+    closing-starts h e = record { low = h; sized = e; same = refl }
+
+    pub closing-more : {m : List A} {j : ℕ} → Closing last l i m j → j < last → Closing last l i (set m j (getD m (j + 1) z)) (j + 1)
+    closing-more {m} {j} c h = record { low = omega arith; sized = simp length-set (c .sized); same = shut-more m j (omega arith) ∙ c .same }
+
+    pub closing-ends : {m : List A} {j : ℕ} → Closing last l i m j → last ≤ j → set m last z ≡ shut z l i
+    closing-ends {m} {j} c h = let e : j ≡ last = omega arith in shut-end m last (c .sized) ∙ (rw e at (c .same))
 
 -- a loop that puts f of each element in its place, one a turn: what it has after i turns
 module _ {A : Type 0} (f : A → A) where

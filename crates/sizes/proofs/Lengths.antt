@@ -54,7 +54,7 @@ module _ (offset size l : ℕ) where
 
 module _ (p : Partition) (k : Sbn) where
   -- a block of the first ones
-  module _ (first : k .0 < p .bigs) where
+  module _ (first : k .0 < p .«nb_a_large») where
     pub in-large : symbols-in p k ≡ p .large
     unfolding symbols-in
     in-large = rw (lt-ltb _ _ first)
@@ -72,12 +72,12 @@ module _ (p : Partition) (k : Sbn) where
     start-large e = rw before-large (mul-assoc _ _ _)
 
   -- and one of the others
-  module _ (later : p .bigs ≤ k .0) where
+  module _ (later : p .«nb_a_large» ≤ k .0) where
     pub in-small : symbols-in p k ≡ p .small
     unfolding symbols-in
     in-small = rw (le-ltb _ _ later)
 
-    pub before-small : first-symbol p k ≡ p .bigs * p .large + (k .0 - p .bigs) * p .small
+    pub before-small : first-symbol p k ≡ p .«nb_a_large» * p .large + (k .0 - p .«nb_a_large») * p .small
     unfolding first-symbol
     before-small = rw (le-ltb _ _ later)
 
@@ -85,9 +85,9 @@ module _ (p : Partition) (k : Sbn) where
     unfolding block-size
     size-small e = rw in-small
 
-    pub start-small : (e : ℕ) → block-start p e k ≡ p .bigs * (p .large * e) + (k .0 - p .bigs) * (p .small * e)
+    pub start-small : (e : ℕ) → block-start p e k ≡ p .«nb_a_large» * (p .large * e) + (k .0 - p .«nb_a_large») * (p .small * e)
     unfolding block-start
-    start-small e = rw before-small (add-mul _ _ _ ∙ rw (mul-assoc (p .bigs), mul-assoc (k .0 - p .bigs)))
+    start-small e = rw before-small (add-mul _ _ _ ∙ rw (mul-assoc (p .«nb_a_large»), mul-assoc (k .0 - p .«nb_a_large»)))
 
 module _ (p : Partition) (l e : ℕ) (k : Sbn) where
   pub large-past : wide ≤ p .large * e → block-length p l e k ≡ none
@@ -120,7 +120,7 @@ module _ (p : Partition) (l e : ℕ) (k : Sbn) where
       start-told : wide ≤ block-start p e k → block-length p l e k ≡ none
       start-told = start-past (fitted _ x large .1) (fitted _ y small .1)
 
-      module _ (first : k .0 < p .bigs) where
+      module _ (first : k .0 < p .«nb_a_large») where
         begun : block-start p e k ≡ k .0 * x
         begun = rw (fitted _ x large .0) (start-large p k first e)
 
@@ -132,17 +132,17 @@ module _ (p : Partition) (l e : ℕ) (k : Sbn) where
             let f = fitted _ o h in
             all-fit (fitted _ x large .1) (fitted _ y small .1) (rw begun (f .1)) ∙ rw (begun, size-large p k first e, f .0, fitted _ x large .0)
 
-      module _ (later : p .bigs ≤ k .0) where
-        begun′ : block-start p e k ≡ p .bigs * x + (k .0 - p .bigs) * y
+      module _ (later : p .«nb_a_large» ≤ k .0) where
+        begun′ : block-start p e k ≡ p .«nb_a_large» * x + (k .0 - p .«nb_a_large») * y
         begun′ = rw (fitted _ x large .0, fitted _ y small .0) (start-small p k later e)
 
-        pub small-offset-past : checked ((k .0 - p .bigs) * y) ≡ Past → block-length p l e k ≡ none
+        pub small-offset-past : checked ((k .0 - p .«nb_a_large») * y) ≡ Past → block-length p l e k ≡ none
         small-offset-past h = start-told (rw begun′ (omega (arith, past _ h)))
 
-        pub large-offset-past : checked (p .bigs * x) ≡ Past → block-length p l e k ≡ none
+        pub large-offset-past : checked (p .«nb_a_large» * x) ≡ Past → block-length p l e k ≡ none
         large-offset-past h = start-told (rw begun′ (omega (arith, past _ h)))
 
-        module _ (s t : ℕ) (after : checked ((k .0 - p .bigs) * y) ≡ Fits s) (before : checked (p .bigs * x) ≡ Fits t) where
+        module _ (s t : ℕ) (after : checked ((k .0 - p .«nb_a_large») * y) ≡ Fits s) (before : checked (p .«nb_a_large» * x) ≡ Fits t) where
           both : block-start p e k ≡ t + s
           both = begun′ ∙ rw (fitted _ s after .0, fitted _ t before .0)
 

@@ -2,6 +2,7 @@
 pub mod Tests
 pub mod Lists
 pub mod Arrays
+pub mod Folds
 pub mod Tables
 pub mod Collects
 pub mod Arithmetic

@@ -8,8 +8,16 @@ use native.Mathlib.Omega.{arith}
 use lib.Dec.{eqb}
 use borrow.Author.Tests.{eqb-true}
 use lib.ListN.{length, set, getD, take}
-use Rattle.sizes.specs.Words.{if_then_else_, over, keep, any, find, drop-first, first-of, at, cut, place, Each, has, one-if, times, Hit}
+use Rattle.sizes.specs.Words.{if_then_else_, over, any, find, drop-first, first-of, at, cut, place, Each, has, one-if, times}
 use Rattle.sizes.proofs.Tests.{Tested, pass, fail, tested, none≢some}
+
+-- a search finds a, at place n
+pub record Hit {A : Type 0} (ok : A → Bool) (l : List A) (n : ℕ) (a : A) : Type 0 where
+  pub found : place ok l ≡ some n
+  pub stands : at l n ≡ some a
+  pub passes : ok a ≡ true
+  pub first : find ok l ≡ some a
+  pub rest : drop-first ok l ≡ cut l n
 
 -- what a search comes to
 pub data Sought {A : Type 0} (ok : A → Bool) (l : List A) : Type 0 where
@@ -73,11 +81,6 @@ module _ {A : Type 0} (P : A → Type 0) where
   each-append [] b u v = v
   each-append (x ∷ a) b u v = (u .0, each-append a b (u .1) v)
 
-  pub each-keep : (ok : A → Bool) (l : List A) → Each P l → Each P (keep ok l)
-  each-keep ok [] u = tt
-  each-keep ok (a ∷ l) u = elim (ok a) as (λ t. Each P (if t then a ∷ keep ok l else keep ok l))
-      [ true ↦ (u .0, each-keep ok l (u .1)) | false ↦ each-keep ok l (u .1) ]
-
   pub each-drop-first : (ok : A → Bool) (l : List A) → Each P l → Each P (drop-first ok l)
   each-drop-first ok [] u = tt
   each-drop-first ok (a ∷ l) u = elim (ok a) as (λ t. Each P (if t then l else a ∷ drop-first ok l))
@@ -136,7 +139,7 @@ pub found : {A : Type 0} (ok : A → Bool) (l : List A) (a : A) → find ok l �
 found ok l a e = each-find (λ a. Unit {0}) ok l a e (each-all (λ a. Unit {0}) (λ a. tt) l) .1
 
 -- a table with no number: each test fails
-pub first-none : (n : ℕ) (t : Bool) (l : List (ℕ × Bool)) → first-of ((n, t) ∷ l) ≡ none → (t ≡ false) × (first-of l ≡ none)
+pub first-none : {A : Type 0} (n : A) (t : Bool) (l : List (A × Bool)) → first-of ((n, t) ∷ l) ≡ none → (t ≡ false) × (first-of l ≡ none)
 first-none n true l e = absurd (none≢some (sym e))
 first-none n false l e = (refl, e)
 

@@ -29,26 +29,26 @@ module _ (p : Partition) where
       ⊎-elim
       (λ h. before-large p (sbn 0) h ∙ zero-mul _)
       (λ h.
-      let z : p .bigs ≡ 0 = omega arith in
+      let z : p .«nb_a_large» ≡ 0 = omega arith in
       before-small p (sbn 0) h ∙ simp (z, zero-mul))
-      (below-or 0 (p .bigs))
+      (below-or 0 (p .«nb_a_large»))
 
   -- a block begins where the one before it ends
   follows : (k : ℕ) → first (k + 1) ≡ first k + count k
   follows k =
       ⊎-elim
-      (λ (h : k < p .bigs).
+      (λ (h : k < p .«nb_a_large»).
       ⊎-elim
-      (λ (g : k + 1 < p .bigs). rw (before-large p (sbn (k + 1)) g, before-large p (sbn k) h, in-large p (sbn k) h) (one-more k (p .large)))
-      (λ (g : p .bigs ≤ k + 1).
-      let z : p .bigs ≡ k + 1 = omega arith in
-      let n : k + 1 - p .bigs ≡ 0 = omega arith in
+      (λ (g : k + 1 < p .«nb_a_large»). rw (before-large p (sbn (k + 1)) g, before-large p (sbn k) h, in-large p (sbn k) h) (one-more k (p .large)))
+      (λ (g : p .«nb_a_large» ≤ k + 1).
+      let z : p .«nb_a_large» ≡ k + 1 = omega arith in
+      let n : k + 1 - p .«nb_a_large» ≡ 0 = omega arith in
       rw (before-small p (sbn (k + 1)) g, before-large p (sbn k) h, in-large p (sbn k) h, n, zero-mul, z) (omega (arith, one-more k (p .large))))
-      (below-or (k + 1) (p .bigs)))
-      (λ (h : p .bigs ≤ k).
-      let n : k + 1 - p .bigs ≡ k - p .bigs + 1 = omega arith in
-      rw (before-small p (sbn (k + 1)) (omega arith), before-small p (sbn k) h, in-small p (sbn k) h, n) (omega (arith, one-more (k - p .bigs) (p .small))))
-      (below-or k (p .bigs))
+      (below-or (k + 1) (p .«nb_a_large»)))
+      (λ (h : p .«nb_a_large» ≤ k).
+      let n : k + 1 - p .«nb_a_large» ≡ k - p .«nb_a_large» + 1 = omega arith in
+      rw (before-small p (sbn (k + 1)) (omega arith), before-small p (sbn k) h, in-small p (sbn k) h, n) (omega (arith, one-more (k - p .«nb_a_large») (p .small))))
+      (below-or k (p .«nb_a_large»))
 
   sums : (n : ℕ) → sum-below n count ≡ first n
   sums zero = sym begins
@@ -66,8 +66,8 @@ module _ (p : Partition) where
 -- ---- the four numbers of t symbols in blocks of at most b
 record Cut (b t : ℕ) (p : Partition) : Type 0 where
   fewest : p .blocks ≡ ceil t b
-  inside : p .bigs ≤ p .blocks
-  total : p .bigs * p .large + (p .blocks - p .bigs) * p .small ≡ t
+  inside : p .«nb_a_large» ≤ p .blocks
+  total : p .«nb_a_large» * p .large + (p .blocks - p .«nb_a_large») * p .small ≡ t
   larger : p .small ≤ p .large
   by-one : p .large ≤ p .small + 1
   at-most : p .large ≤ b
@@ -184,7 +184,7 @@ module _ (b l e : ℕ) where
     between : (k : Sbn) → (p .small ≤ symbols-in p k) × (symbols-in p k ≤ p .large)
     between k =
         let c = cut .larger in
-        ⊎-elim (λ h. rw (in-large p k h) (omega arith)) (λ h. rw (in-small p k h) (omega arith)) (below-or (k .0) (p .bigs))
+        ⊎-elim (λ h. rw (in-large p k h) (omega arith)) (λ h. rw (in-small p k h) (omega arith)) (below-or (k .0) (p .«nb_a_large»))
 
     none-empty : 0 < t → (k : Sbn) → 1 ≤ symbols-in p k
     none-empty h k = omega (arith, between k, cut .none-empty h)
@@ -348,4 +348,4 @@ module _ (b l e : ℕ) where
       (below-or 0 b)
 
   pub empty-exactly : Empty (partition-of b l e) ↔ (b ≡ 0) ⊎ (e ≡ 0) ⊎ (l ≡ 0)
-  empty-exactly = (not-gone, λ h. rw (gone h) (record { large = refl; small = refl; bigs = refl; blocks = refl }))
+  empty-exactly = (not-gone, λ h. rw (gone h) (record { large = refl; small = refl; larges = refl; blocks = refl }))

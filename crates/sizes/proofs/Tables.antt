@@ -2,29 +2,30 @@
 use mathlib.Core.Path.{_≡_, refl, sym, _∙_, ap, subst}
 use mathlib.Core.Bool.{Bool, true, false, _&&_, _||_, false≢true}
 use mathlib.Core.Option.{some}
-use mathlib.Core.List.{List, [], _∷_, _++_, map}
+use mathlib.Core.List.{List, [], _∷_, map}
 use Prim.Native.Nat.{ℕ, zero, suc, _+_, _≤_, _<_}
 use native.Mathlib.Omega.{arith}
 use lib.Dec.{eqb}
-use borrow.Author.Tests.{eqb-true, eqb-false, eq-eqb}
+use borrow.Author.Tests.{eqb-true, eqb-false, eq-eqb, ne-eqb}
 use lib.ListN.{length, set, getD}
 use lib.Seq.{getD-set-same, getD-set-other}
 use Rattle.sizes.specs.Words.{if_then_else_, over, given, keep, any, find, drop-first, at, cut, has, one-if, times, tally, Counts}
-use Rattle.sizes.proofs.Tests.{Tested, pass, fail, tested, none≢some, and-left, and-right}
-use Rattle.sizes.proofs.Lists.{Sought, hit, miss, sought, none-found, at-get, has-times, has-none}
+use Rattle.sizes.proofs.Tests.{Tested, pass, fail, tested, none≢some}
+use Rattle.sizes.proofs.Lists.{any-map, has-times, has-none}
+use Rattle.sizes.proofs.Folds.{Fold, folded, folded-empty, folded-set, folded-in, or-fold, any-folded, sum-fold, tally-folded, length-folded}
 
 -- a count that is 1, or 0, tells the test
-one : (b : Bool) → 1 ≤ one-if b → b ≡ true
-one true h = refl
-one false h = absurd (omega arith)
+pub one-true : (b : Bool) → 1 ≤ one-if b → b ≡ true
+one-true true h = refl
+one-true false h = absurd (omega arith)
 
 zero-one : (b : Bool) → 0 ≡ one-if b → b ≡ false
 zero-one true h = absurd (omega arith)
 zero-one false h = refl
 
-at-most-one : (b : Bool) → one-if b ≤ 1
-at-most-one true = omega arith
-at-most-one false = omega arith
+pub one-most : (b : Bool) → one-if b ≤ 1
+one-most true = omega arith
+one-most false = omega arith
 
 -- a map is told by what stands in the list
 pub map-in : {B : Type 0} (f g : ℕ → B) (l : List ℕ) → ((k : ℕ) → 1 ≤ times k l → f k ≡ g k) → map f l ≡ map g l
@@ -55,29 +56,6 @@ pub none-get : {A : Type 0} (z : A) (ok : A → Bool) (l : List A) → ((i : ℕ
 none-get z ok [] h e k = e
 none-get z ok (a ∷ l) h e zero = h 0 a refl
 none-get z ok (a ∷ l) h e (suc k) = none-get z ok l (λ i. h (suc i)) e k
-
--- what stands in a list stands under f in its map; two with the same f stand there twice
-pub in-one : (f : ℕ → ℕ) (l : List ℕ) (k : ℕ) → 1 ≤ times k l → 1 ≤ times (f k) (map f l)
-in-one f [] k h = absurd (omega arith)
-in-one f (a ∷ l) k h = go (tested (eqb a k)) (in-one f l k)
-  where
-    go : Tested (eqb a k) → (1 ≤ times k l → 1 ≤ times (f k) (map f l)) → 1 ≤ one-if (eqb (f a) (f k)) + times (f k) (map f l)
-    go (pass e) r = let b = ap one-if (eq-eqb (f a) (f k) (ap f (eqb-true a k e))) in omega arith
-    go (fail e) r = let c = ap one-if e in let b = r (omega arith) in omega arith
-
-pub two-in : (f : ℕ → ℕ) (l : List ℕ) (j k : ℕ) → eqb j k ≡ false → 1 ≤ times j l → 1 ≤ times k l → f j ≡ f k → 2 ≤ times (f k) (map f l)
-two-in f [] j k n a b e = absurd (omega arith)
-two-in f (i ∷ l) j k n a b e = go (tested (eqb i j)) (tested (eqb i k)) (λ a b. two-in f l j k n a b e)
-  where
-    go : Tested (eqb i j) → Tested (eqb i k) → (1 ≤ times j l → 1 ≤ times k l → 2 ≤ times (f k) (map f l)) → 2 ≤ one-if (eqb (f i) (f k)) + times (f k) (map f l)
-    go (pass p) (pass q) r = absurd (eqb-false j k n (sym (eqb-true i j p) ∙ eqb-true i k q))
-    go (pass p) (fail q) r =
-        let c = ap one-if q in let d = in-one f l k (omega arith) in
-        let g = ap one-if (eq-eqb (f i) (f k) (ap f (eqb-true i j p) ∙ e)) in omega arith
-    go (fail p) (pass q) r =
-        let c = ap one-if p in let d = in-one f l j (omega arith) in let h = ap (λ m. times m (map f l)) e in
-        let g = ap one-if (eq-eqb (f i) (f k) (ap f (eqb-true i k q))) in omega arith
-    go (fail p) (fail q) r = let c = ap one-if p in let d = ap one-if q in let h = r (omega arith) (omega arith) in omega arith
 
 -- lists that have each number as often are as long, and have the same numbers
 at-times : (k : ℕ) (l : List ℕ) → 1 ≤ times k l → (R : Type 0) → ((n : ℕ) → at l n ≡ some k → suc (length (cut l n)) ≡ length l → R) → R
@@ -125,10 +103,6 @@ drop-map ok f (a ∷ l) = elim (ok (f a)) as (λ t. (if t then map f l else f a 
 pub find-any : {A : Type 0} (ok : A → Bool) (l : List A) → given (find ok l) ≡ any ok l
 find-any ok [] = refl
 find-any ok (a ∷ l) = elim (ok a) as (λ t. given (if t then some a else find ok l) ≡ (t || any ok l)) [ true ↦ refl | false ↦ find-any ok l ]
-
-pub any-append : {A : Type 0} (ok : A → Bool) (a b : List A) → any ok (a ++ b) ≡ (any ok a || any ok b)
-any-append ok [] b = refl
-any-append ok (x ∷ a) b = elim (ok x) as (λ t. (t || any ok (a ++ b)) ≡ ((t || any ok a) || any ok b)) [ true ↦ refl | false ↦ any-append ok a b ]
 
 pub any-in : {B : Type 0} (ok : B → Bool) (f : ℕ → B) (l : List ℕ) (k : ℕ) → 1 ≤ times k l → ok (f k) ≡ true → any ok (map f l) ≡ true
 any-in ok f [] k h e = absurd (omega arith)
@@ -184,7 +158,7 @@ module _ {A : Type 0} (z : A) where
             let a = ap (λ i. one-if (p (getD (set t k v) i z))) s in
             let b = ap (λ x. one-if (p x)) (getD-set-same t k v z inn) in
             let d = ap one-if e in
-            let f = h j in let g = ap one-if q in let r = c j in let b1 = at-most-one (p (getD t j z)) in omega arith
+            let f = h j in let g = ap one-if q in let r = c j in let b1 = one-most (p (getD t j z)) in omega arith
         go (fail q) = let a = ap (λ x. one-if (p x)) (other t k v j q) in let f = h j in let g = ap one-if q in let r = c j in omega arith
 
     -- k joins the list, and passes from now on
@@ -213,48 +187,43 @@ module _ {A : Type 0} (z : A) where
             let f = h j in let r = c j in let w = ap (λ i. one-if (p (getD t i z))) s in omega arith
         go (fail q) = let a = ap (λ x. one-if (p x)) (other t k v j q) in let f = h j in let r = c j in omega arith
 
-  tally-none : (p : A → Bool) (t : List A) → ((k : ℕ) → p (getD t k z) ≡ false) → tally p t ≡ 0
-  tally-none p [] h = refl
-  tally-none p (a ∷ t) h = let b = tally-none p t (λ k. h (suc k)) in let c = ap one-if (h 0) in omega arith
-
-  tally-set : (p : A → Bool) (t : List A) (k : ℕ) (v : A) → p z ≡ false → p (getD t k z) ≡ true → p v ≡ false → suc (tally p (set t k v)) ≡ tally p t
-  tally-set p [] k v n h e = absurd (false≢true (sym n ∙ h))
-  tally-set p (a ∷ t) zero v n h e = let b = ap one-if h in let c = ap one-if e in omega arith
-  tally-set p (a ∷ t) (suc k) v n h e = let b = tally-set p t k v n h e in omega arith
-
   pub tally-lt : (p : A → Bool) (t : List A) (k : ℕ) → k < length t → p (getD t k z) ≡ false → tally p t < length t
   tally-lt p [] k h e = absurd (omega arith)
   tally-lt p (a ∷ t) zero h e = let b = tally-le p t in let c = ap one-if e in omega arith
   tally-lt p (a ∷ t) (suc k) h e = let b = tally-lt p t k (omega arith) e in elim (p a) as (λ x. one-if x + tally p t < suc (length t)) [ true ↦ omega arith | false ↦ omega arith ]
 
-  -- a list that counts the places that pass is as long as they are many
-  pub counts-length : (p : A → Bool) (t : List A) (l : List ℕ) → p z ≡ false → Counts z p t l → length l ≡ tally p t
-  counts-length p t [] n c = sym (tally-none p t (λ k. zero-one (p (getD t k z)) (c k)))
-  counts-length p t (k ∷ l) n c =
+  -- a list that counts the places that pass: a fold over it by f is one over the table by q,
+  -- which is f of what passes, and adds nothing of what does not
+  pub fold-counts : {B : Type 0} (F : Fold B) (p : A → Bool) (f q : A → B) → p z ≡ false
+      → ((a : A) → p a ≡ true → q a ≡ f a) → ((a : A) → p a ≡ false → q a ≡ F .empty)
+      → (t : List A) (l : List ℕ) → Counts z p t l → folded F (λ k. f (getD t k z)) l ≡ folded F q t
+  fold-counts F p f q n same else-none t [] c =
+      sym (folded-empty F q z (else-none z n) t (λ k. else-none (getD t k z) (zero-one (p (getD t k z)) (c k))))
+  fold-counts F p f q n same else-none t (k ∷ l) c =
       let r = ap one-if (eq-eqb k k refl) in
       let e = c k in
-      let y : p (getD t k z) ≡ true = one (p (getD t k z)) (omega arith) in
-      let h = counts-length p (set t k z) l n (leaves p t k z (inside p t k n y) (k ∷ l) l c (λ j. omega arith) n) in
-      let g = tally-set p t k z n y n in omega arith
+      let b = one-most (p (getD t k z)) in
+      let y : p (getD t k z) ≡ true = one-true (p (getD t k z)) (omega arith) in
+      let out : times k l ≡ 0 = omega arith in
+      let u = set t k z in
+      let h = fold-counts F p f q n same else-none u l (leaves p t k z (inside p t k n y) (k ∷ l) l c (λ j. omega arith) n) in
+      ap (F .join (f (getD t k z))) (folded-in F (λ j. f (getD t j z)) (λ j. f (getD u j z)) l
+      (λ j i. ap f (sym (other t k z j (ne-eqb k j (λ s. (let w = ap (λ m. times m l) s in omega arith)))))))
+      ∙ (λ i. F .join (sym (same (getD t k z) y) i) (h i))
+      ∙ folded-set F q z (else-none z n) t k
 
-  -- a test over the list is a test over the table
+  -- it is as long as those that pass are many
+  pub counts-length : (p : A → Bool) (t : List A) (l : List ℕ) → p z ≡ false → Counts z p t l → length l ≡ tally p t
+  counts-length p t l n c =
+      length-folded l
+      ∙ fold-counts sum-fold p (λ a. 1) (λ a. one-if (p a)) n (λ a e. ap one-if e) (λ a e. ap one-if e) t l c
+      ∙ sym (tally-folded p t)
+
+  -- a test over it is a test over the table
   pub any-counts : {B : Type 0} (p : A → Bool) (t : List A) (l : List ℕ) → p z ≡ false → Counts z p t l → (ok : B → Bool) (g : A → B)
       → any ok (map (λ k. g (getD t k z)) l) ≡ any (λ a. p a && ok (g a)) t
-  any-counts p t l n c ok g = go (sought (λ a. p a && ok (g a)) t)
-    where
-      no : (a b : Bool) → (a && b) ≡ false → a ≡ true → b ≡ false
-      no true b e f = e
-      no false b e f = absurd (false≢true f)
-
-      go : Sought (λ a. p a && ok (g a)) t → any ok (map (λ k. g (getD t k z)) l) ≡ any (λ a. p a && ok (g a)) t
-      go (hit k a h) = (
-          let r = at-get z t k a (h .stands) in
-          let o = subst (λ x. (p x && ok (g x)) ≡ true) (sym (r .0)) (h .passes) in
-          let v = and-left (p (getD t k z)) (ok (g (getD t k z))) o in
-          let w = and-right (p (getD t k z)) (ok (g (getD t k z))) o in
-          any-in ok (λ k. g (getD t k z)) l k (let d = c k in let e = ap one-if v in omega arith) w
-          ∙ sym (sym (find-any (λ a. p a && ok (g a)) t) ∙ ap given (h .first)))
-      go (miss q u) = (
-          let out = none-get z (λ a. p a && ok (g a)) t u (ap (λ b. b && ok (g z)) n) in
-          any-none ok (λ k. g (getD t k z)) l (λ k h. no (p (getD t k z)) (ok (g (getD t k z))) (out k) (one (p (getD t k z)) (let d = c k in omega arith)))
-          ∙ sym (sym (find-any (λ a. p a && ok (g a)) t) ∙ ap given (none-found (λ a. p a && ok (g a)) t u .0)))
+  any-counts p t l n c ok g =
+      any-map ok (λ k. g (getD t k z)) l
+      ∙ any-folded (λ k. ok (g (getD t k z))) l
+      ∙ fold-counts or-fold p (λ a. ok (g a)) (λ a. p a && ok (g a)) n (λ a e. rw e) (λ a e. rw e) t l c
+      ∙ sym (any-folded (λ a. p a && ok (g a)) t)

@@ -10,6 +10,7 @@ use lib.Dec.{eqb, ltb, lit<}
 use borrow.Author.Tests.{eqb-true, eqb-false, ne-eqb, ltb-true, ltb-false}
 use lib.ListN.{length}
 use Rattle.sizes.specs.Words.{if_then_else_, has}
+use Rattle.sizes.specs.Limits.{toi-entries}
 use Rattle.sizes.specs.Toi.{skip-zero, cut-to, after, free-from, first-toi, next-toi, Toi, steps-on, FirstFree}
 use Rattle.sizes.proofs.Tests.{Tested, pass, fail, tested}
 
@@ -156,14 +157,14 @@ unfolding next-toi
 next-range w held t h = let z = wide w h in free-range w (length held) held (after w t) (after-range w t (omega arith))
 
 -- it is not held
-pub next-free : (w : ℕ) (held : List ℕ) (t : ℕ) → 16 ≤ w → length held ≤ 64 → has (next-toi w held t) held ≡ false
+pub next-free : (w : ℕ) (held : List ℕ) (t : ℕ) → 16 ≤ w → length held ≤ toi-entries → has (next-toi w held t) held ≡ false
 unfolding next-toi
 next-free w held t h g =
     let z = wide w h in
     free-ok w (length held) held held (after w t) (after-range w t (omega arith)) (omega arith) (omega arith) (λ j i e. e)
 
 -- and it is the first such after t
-pub next-first : (w : ℕ) (held : List ℕ) (t : ℕ) → 16 ≤ w → length held ≤ 64 → FirstFree w held t (next-toi w held t)
+pub next-first : (w : ℕ) (held : List ℕ) (t : ℕ) → 16 ≤ w → length held ≤ toi-entries → FirstFree w held t (next-toi w held t)
 unfolding next-toi
 next-first w held t h g =
     let s = stop-at w (length held) held (after w t) in

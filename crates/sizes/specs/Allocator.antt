@@ -6,8 +6,10 @@ use mathlib.Core.List.{List, [], _∷_, _++_, map}
 use Prim.Native.Nat.{ℕ, _+_, _-_, _≤_}
 use lib.Dec.{eqb, ltb}
 use lib.ListN.{length, getD, take, set, replicate}
-use Rattle.sizes.specs.Words.{if_then_else_, maybe, has, place, shut, collect, one-if, times, Each}
+use Rattle.sizes.specs.Words.{if_then_else_, maybe, has, place, shut, collect, times, Each}
 use Rattle.sizes.specs.Limits.{toi-entries}
+use Rattle.sizes.specs.declared.refusal.Refusal.{Refusal}
+use Rattle.sizes.specs.declared.refusal.Refusal.the-variants as Because
 use Rattle.sizes.specs.Toi.{Toi, first-toi, next-toi, FirstFree}
 use Rattle.sizes.specs.declared.toiallocator.ToiMaxLength.{ToiMaxLength}
 use Rattle.sizes.specs.declared.toiallocator.ToiMaxLength.the-variants.{ToiMax16, ToiMax32, ToiMax48, ToiMax64}
@@ -17,8 +19,6 @@ use Rattle.sizes.specs.declared.toiallocator.Given.{Given}
 use Rattle.sizes.specs.declared.toiallocator.Given.the-variants.{Number, Full}
 use Rattle.sizes.specs.declared.toiallocator.Known.{Known}
 use Rattle.sizes.specs.declared.toiallocator.Known.the-variants.{Done, Unknown}
-use Rattle.sizes.specs.declared.toiallocator.Place.{Place}
-use Rattle.sizes.specs.declared.toiallocator.Place.the-variants.{At, Nothing}
 use Rattle.sizes.specs.declared.toiallocator.Allocated.{Allocated}
 use Rattle.sizes.specs.declared.toiallocator.Changed.{Changed}
 
@@ -33,19 +33,19 @@ bits ToiMax64 = 64
 abbrev pub Width : ℕ → Type 0
 Width n = (w : ToiMaxLength) × (n ≡ bits w)
 
--- what a call says: a number, that it was done, or the number of its refusal
+-- what a call says: a number, that it was done, or why it is refused
 pub data Said : Type 0 where
   toi : ℕ → Said
   done : Said
-  refused : ℕ → Said
+  refused : Refusal → Said
 
 abbrev pub given-said : Given → Said
 given-said (Number n) = Said.toi n
-given-said Full = Said.refused 7
+given-said Full = Said.refused Because.Full
 
 abbrev pub known-said : Known → Said
 known-said Done = Said.done
-known-said Unknown = Said.refused 6
+known-said Unknown = Said.refused Because.NotLoose
 
 -- an entry that is not in use
 abbrev pub no-entry : Entry
@@ -72,18 +72,13 @@ loose a = collect loose-in (noted a)
 abbrev pub bound : ToiAllocator → List ℕ
 bound a = collect bound-in (noted a)
 
--- what a search says
-abbrev pub place-said : Place → Option ℕ
-place-said (At i) = some i
-place-said Nothing = none
-
 -- is it the entry of a loose reservation (or of an object) with this number
 unfoldable pub entry-is : ℕ → Bool → Entry → Bool
 entry-is t flag e = eqb (e .toi) t && (if flag then e .loose else not (e .loose))
 
 -- before the first call
-unfoldable pub opening : ℕ → ℕ → ToiAllocator
-opening w n = record { entries = replicate toi-entries no-entry; entered = 0; next = first-toi w n; width = w }
+unfoldable pub new-allocator : ℕ → ℕ → ToiAllocator
+new-allocator w n = record { entries = replicate toi-entries no-entry; entered = 0; next = first-toi w n; width = w }
 
 -- the stored next number as one entry more
 unfoldable pub noting : Bool → ToiAllocator → ToiAllocator
@@ -108,8 +103,8 @@ unfoldable pub bound-at : ToiAllocator → ℕ → ℕ → ToiAllocator
 bound-at a t i = record { entries = set (a .entries) i (record { toi = t; loose = false }); entered = a .entered; next = a .next; width = a .width }
 
 -- the entry at place i is gone, the others keep their order, and next stays
-unfoldable pub without : ToiAllocator → ℕ → ToiAllocator
-without a i = record { entries = shut no-entry (a .entries) i; entered = a .entered - 1; next = a .next; width = a .width }
+unfoldable pub entry-gone : ToiAllocator → ℕ → ToiAllocator
+entry-gone a i = record { entries = shut no-entry (a .entries) i; entered = a .entered - 1; next = a .next; width = a .width }
 
 abbrev pub unchanged : ToiAllocator → Changed
 unchanged a = record { answer = Unknown; allocator = a }
@@ -123,7 +118,7 @@ claimed-of t a = maybe (unchanged a) (λ i. changed (bound-at a t i)) (place (en
 
 -- a loose reservation (true), or an object's number (false), is let go
 unfoldable pub dropped-of : Bool → ℕ → ToiAllocator → Changed
-dropped-of flag t a = maybe (unchanged a) (λ i. changed (without a i)) (place (entry-is t flag) (noted a))
+dropped-of flag t a = maybe (unchanged a) (λ i. changed (entry-gone a i)) (place (entry-is t flag) (noted a))
 
 -- what an accepted call of allocate promises: the number is one that an object may have, and nobody held it;
 -- it is held from now on, and the next is the first number after it that is not
@@ -134,14 +129,8 @@ pub record Fresh (flag : Bool) (a : ToiAllocator) (r : Allocated) : Type 0 where
   pub noted-last : noted (r .allocator) ≡ noted a ++ (record { toi = a .next; loose = flag } ∷ [])
   pub next : FirstFree (a .width) (held (r .allocator)) (a .next) (r .allocator .next)
 
--- an object's number is gone
-pub record Freed (t : ℕ) (a b : ToiAllocator) : Type 0 where
-  pub next-same : b .next ≡ a .next
-  pub loose-same : loose b ≡ loose a
-  pub one-less : (n : ℕ) → times n (bound b) + one-if (eqb t n) ≡ times n (bound a)
-
 -- what new and every call give back, and the only premise of a call
-pub record Valid (a : ToiAllocator) : Type 0 where
+pub record ValidAllocator (a : ToiAllocator) : Type 0 where
   pub wide : Width (a .width)
   pub sized : length (a .entries) ≡ toi-entries
   pub room : a .entered ≤ toi-entries
@@ -161,13 +150,13 @@ pub record Searchable (a : ToiAllocator) : Type 0 where
   pub room : a .entered ≤ toi-entries
 
 pub record Opened (w : ToiMaxLength) (n : ℕ) (r : ToiAllocator) : Type 0 where
-  pub exact : r ≡ opening (bits w) n
-  pub valid : Valid r
+  pub exact : r ≡ new-allocator (bits w) n
+  pub valid : ValidAllocator r
 
 pub record Gives (flag : Bool) (a : ToiAllocator) (r : Allocated) : Type 0 where
   pub exact : r ≡ allocated-of flag a
-  pub valid : Valid (r .allocator)
+  pub valid : ValidAllocator (r .allocator)
 
 pub record Becomes (s r : Changed) : Type 0 where
   pub exact : r ≡ s
-  pub valid : Valid (r .allocator)
+  pub valid : ValidAllocator (r .allocator)

@@ -28,10 +28,10 @@ symbols-of l e = ceil l e
 
 -- T symbols in N blocks: A_large, A_small, I and N of the RFC
 unfoldable pub split : ℕ → ℕ → Partition
-split t n = record { large = ceil t n; small = t / n; bigs = t - t / n * n; blocks = n }
+split t n = record { large = ceil t n; small = t / n; «nb_a_large» = t - t / n * n; blocks = n }
 
 abbrev pub no-blocks : Partition
-no-blocks = record { large = 0; small = 0; bigs = 0; blocks = 0 }
+no-blocks = record { large = 0; small = 0; «nb_a_large» = 0; blocks = 0 }
 
 -- the partition of l bytes into symbols of e bytes and blocks of at most b symbols; all zeros where b, e or T is 0
 unfoldable pub partition-of : ℕ → ℕ → ℕ → Partition
@@ -45,11 +45,11 @@ blocks-of z l = partition-of (z .b) l (z .e)
 
 -- how many symbols a block has: the first I blocks are large
 unfoldable pub symbols-in : Partition → Sbn → ℕ
-symbols-in p k = if ltb (k .0) (p .bigs) then p .large else p .small
+symbols-in p k = if ltb (k .0) (p .«nb_a_large») then p .large else p .small
 
 -- how many symbols stand before a block
 unfoldable pub first-symbol : Partition → Sbn → ℕ
-first-symbol p k = if ltb (k .0) (p .bigs) then k .0 * p .large else p .bigs * p .large + (k .0 - p .bigs) * p .small
+first-symbol p k = if ltb (k .0) (p .«nb_a_large») then k .0 * p .large else p .«nb_a_large» * p .large + (k .0 - p .«nb_a_large») * p .small
 
 -- where a block begins, in bytes
 unfoldable pub block-start : Partition → ℕ → Sbn → ℕ
@@ -80,7 +80,7 @@ block-length p l e k =
 
 -- the sizes that block_length is handed; it does not ask how many blocks there are
 abbrev pub sizes-given : ℕ → ℕ → ℕ → Partition
-sizes-given large small bigs = record { large = large; small = small; bigs = bigs; blocks = 0 }
+sizes-given large small larges = record { large = large; small = small; «nb_a_large» = larges; blocks = 0 }
 
 -- what the answer of block_length says
 abbrev pub length-said : BlockLength → Option ℕ

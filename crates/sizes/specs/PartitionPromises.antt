@@ -12,7 +12,7 @@ use Rattle.sizes.specs.declared.partition.Partition.{Partition}
 pub record Empty (p : Partition) : Type 0 where
   pub large : p .large ≡ 0
   pub small : p .small ≡ 0
-  pub bigs : p .bigs ≡ 0
+  pub larges : p .«nb_a_large» ≡ 0
   pub blocks : p .blocks ≡ 0
 
 -- the symbols of l bytes in blocks of at most b, for b and e of at least 1

@@ -93,8 +93,8 @@ module _ {A : Type 0} where
 abbrev pub within : ℕ → ℕ → ℕ → Bool
 within low high n = leb low n && leb n high
 
--- the first number of a table whose test holds
-abbrev pub first-of : List (ℕ × Bool) → Option ℕ
+-- the first entry of a table whose test holds
+abbrev pub first-of : {A : Type 0} → List (A × Bool) → Option A
 first-of [] = none
 first-of (r ∷ l) = if r .1 then some (r .0) else first-of l
 
@@ -120,14 +120,6 @@ module _ {A : Type 0} where
   -- a list of places has each place of a table that passes once, and no other; z stands past the table's end
   abbrev pub Counts : A → (A → Bool) → List A → List ℕ → Type 0
   Counts z p t l = (k : ℕ) → times k l ≡ one-if (p (getD t k z))
-
--- a search finds a, at place n
-pub record Hit {A : Type 0} (ok : A → Bool) (l : List A) (n : ℕ) (a : A) : Type 0 where
-  pub found : place ok l ≡ some n
-  pub stands : at l n ≡ some a
-  pub passes : ok a ≡ true
-  pub first : find ok l ≡ some a
-  pub rest : drop-first ok l ≡ cut l n
 
 -- f 0 + f 1 + .. + f (n - 1)
 abbrev pub sum-below : ℕ → (ℕ → ℕ) → ℕ

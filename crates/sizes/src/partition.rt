@@ -12,12 +12,12 @@ pub struct Sizes {
     pub b: u64,
 }
 
-// Blocks 0 to bigs - 1 have `large` symbols, the others `small`.
+// Blocks 0 to nb_a_large - 1 have `large` symbols, the others `small`.
 #[repr(C)]
 pub struct Partition {
     pub large: u64,
     pub small: u64,
-    pub bigs: u64,
+    pub nb_a_large: u64,
     pub blocks: u64,
 }
 
@@ -54,7 +54,7 @@ fn no_blocks() -> Partition
     Partition {
         large: 0,
         small: 0,
-        bigs: 0,
+        nb_a_large: 0,
         blocks: 0,
     }
 }
@@ -79,7 +79,7 @@ pub fn block_partitioning(b: u64, l: u64, e: u64) -> Partition
     Partition {
         large,
         small,
-        bigs: t - small * n,
+        nb_a_large: t - small * n,
         blocks: n,
     }
 }
@@ -121,8 +121,15 @@ fn reached(offset: u64, size: u64, l: u64) -> BlockLength
 }
 
 // A block's length in bytes. Nothing where the block begins at l or later, is empty, or a number passes 64 bits.
-pub fn block_length(large: u64, small: u64, bigs: u64, l: u64, e: u64, sbn: Sbn) -> BlockLength
-    ensures { λ r. ⌜ length-said r ≡ block-length (sizes-given large small bigs) l e sbn ⌝ }
+pub fn block_length(
+    large: u64,
+    small: u64,
+    nb_a_large: u64,
+    l: u64,
+    e: u64,
+    sbn: Sbn,
+) -> BlockLength
+    ensures { λ r. ⌜ length-said r ≡ block-length (sizes-given large small «nb_a_large») l e sbn ⌝ }
 {
     let Checked::Fits(large_size) = checked_mul(large, e) else {
         return BlockLength::Nothing;
@@ -131,16 +138,16 @@ pub fn block_length(large: u64, small: u64, bigs: u64, l: u64, e: u64, sbn: Sbn)
         return BlockLength::Nothing;
     };
     let k = sbn.0 as u64;
-    if k < bigs {
+    if k < nb_a_large {
         let Checked::Fits(offset) = checked_mul(k, large_size) else {
             return BlockLength::Nothing;
         };
         return reached(offset, large_size, l);
     }
-    let Checked::Fits(small_offset) = checked_mul(k - bigs, small_size) else {
+    let Checked::Fits(small_offset) = checked_mul(k - nb_a_large, small_size) else {
         return BlockLength::Nothing;
     };
-    let Checked::Fits(large_offset) = checked_mul(bigs, large_size) else {
+    let Checked::Fits(large_offset) = checked_mul(nb_a_large, large_size) else {
         return BlockLength::Nothing;
     };
     let Checked::Fits(offset) = checked_add(large_offset, small_offset) else {

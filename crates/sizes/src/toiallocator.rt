@@ -3,10 +3,16 @@ ghost use mathlib.Core.Path.{_≡_};
 ghost use mathlib.Core.Bool.{true, false};
 ghost use Prim.Native.Nat.{_+_, _-_, _<_, _%_, _^_};
 ghost use Rattle.sizes.specs.Words.{has, place, shut};
+ghost use Rattle.sizes.specs.Limits.{toi-entries};
+ghost use Rattle.sizes.specs.Place.{place-said};
 ghost use Rattle.sizes.specs.Toi.{skip-zero, next-toi};
 ghost use Rattle.sizes.specs.Toi.{after as Toi·after};
 ghost use Rattle.sizes.specs.Allocator.{loose as Allocator·loose};
-ghost use Rattle.sizes.specs.Allocator.{bits, Width, held, noted, entry-is, no-entry, place-said, Searchable, noting, claimed-of, dropped-of, Valid, Opened, Gives, Becomes};
+ghost use Rattle.sizes.specs.Allocator.{bits, Width, held, noted, entry-is, no-entry, Searchable, noting, claimed-of, dropped-of, ValidAllocator, Opened, Gives, Becomes};
+use crate::limits::TOI_ENTRIES;
+use crate::place::Place;
+
+const LAST_ENTRY: usize = TOI_ENTRIES - 1;
 
 // How wide the numbers are.
 pub enum ToiMaxLength {
@@ -26,7 +32,7 @@ pub struct Entry {
 // The entries in use are the first `entered`; `next` is the number that the next call gives.
 #[repr(C)]
 pub struct ToiAllocator {
-    pub entries: [Entry; 64],
+    pub entries: [Entry; TOI_ENTRIES],
     pub entered: usize,
     pub next: u64,
     pub width: u32,
@@ -52,12 +58,6 @@ pub enum Known {
 pub struct Changed {
     pub answer: Known,
     pub allocator: ToiAllocator,
-}
-
-// Where an entry stands.
-pub enum Place {
-    At(usize),
-    Nothing,
 }
 
 // How many bits the numbers have.
@@ -112,18 +112,18 @@ fn is_entry(e: Entry, toi: u64, loose: bool) -> bool
 }
 
 // The array without the entry at `at`: the later ones move up, and zeros come in at the end.
-fn closed(entries: [Entry; 64], at: usize) -> [Entry; 64]
-    requires { ⌜ at < 64 ⌝ }
+fn closed(entries: [Entry; TOI_ENTRIES], at: usize) -> [Entry; TOI_ENTRIES]
+    requires { ⌜ at < toi-entries ⌝ }
     ensures { λ r. ⌜ r ≡ shut no-entry entries at ⌝ }
 {
     let mut out = entries;
     let mut j = at;
-    while j < 63 {
+    while j < LAST_ENTRY {
         let e = out[j + 1];
         out[j] = e;
         j += 1;
     }
-    out[63] = Entry {
+    out[LAST_ENTRY] = Entry {
         toi: 0,
         loose: false,
     };
@@ -142,7 +142,7 @@ impl ToiAllocator {
             loose: false,
         };
         ToiAllocator {
-            entries: [none; 64],
+            entries: [none; TOI_ENTRIES],
             entered: 0,
             next,
             width,
@@ -167,7 +167,7 @@ impl ToiAllocator {
 
     // Where the entry of a loose reservation (or of an object) with this number stands.
     fn find(self, toi: u64, loose: bool) -> Place
-        requires { ⌜ Valid self ⌝ }
+        requires { ⌜ ValidAllocator self ⌝ }
         ensures { λ r. ⌜ place-said r ≡ place (entry-is toi loose) (noted self) ⌝ }
     {
         let n = self.entered;
@@ -184,7 +184,7 @@ impl ToiAllocator {
 
     // Is the number that of a loose reservation?
     pub fn is_loose(self, toi: u64) -> bool
-        requires { ⌜ Valid self ⌝ }
+        requires { ⌜ ValidAllocator self ⌝ }
         ensures { λ r. ⌜ r ≡ has toi (Allocator·loose self) ⌝ }
     {
         match self.find(toi, true) {
@@ -195,7 +195,7 @@ impl ToiAllocator {
 
     // The stored next number as one entry more.
     fn with_next(self, loose: bool) -> ToiAllocator
-        requires { ⌜ self .entered < 64 ⌝ }
+        requires { ⌜ self .entered < toi-entries ⌝ }
         ensures { λ r. ⌜ r ≡ noting loose self ⌝ }
     {
         let n = self.entered;
@@ -228,10 +228,10 @@ impl ToiAllocator {
 
     // Gives the stored next number to a reservation (loose) or to an object, and goes on to the next that is not held.
     pub fn allocate(self, loose: bool) -> Allocated
-        requires { ⌜ Valid self ⌝ }
+        requires { ⌜ ValidAllocator self ⌝ }
         ensures { λ r. ⌜ Gives loose self r ⌝ }
     {
-        if 64 <= self.entered {
+        if TOI_ENTRIES <= self.entered {
             return Allocated {
                 answer: Given::Full,
                 allocator: self,
@@ -247,7 +247,7 @@ impl ToiAllocator {
 
     // A loose reservation becomes an object's number.
     pub fn claim(self, toi: u64) -> Changed
-        requires { ⌜ Valid self ⌝ }
+        requires { ⌜ ValidAllocator self ⌝ }
         ensures { λ r. ⌜ Becomes (claimed-of toi self) r ⌝ }
     {
         let Place::At(at) = self.find(toi, true) else {
@@ -266,7 +266,7 @@ impl ToiAllocator {
 
     // The entry of a loose reservation (or of an object) goes.
     fn drop_entry(self, toi: u64, loose: bool) -> Changed
-        requires { ⌜ Valid self ⌝ }
+        requires { ⌜ ValidAllocator self ⌝ }
         ensures { λ r. ⌜ Becomes (dropped-of loose toi self) r ⌝ }
     {
         let Place::At(at) = self.find(toi, loose) else {
@@ -290,7 +290,7 @@ impl ToiAllocator {
 
     // A loose reservation is let go. `next` stays.
     pub fn release(self, toi: u64) -> Changed
-        requires { ⌜ Valid self ⌝ }
+        requires { ⌜ ValidAllocator self ⌝ }
         ensures { λ r. ⌜ Becomes (dropped-of true toi self) r ⌝ }
     {
         self.drop_entry(toi, true)
@@ -298,7 +298,7 @@ impl ToiAllocator {
 
     // An object's number is let go. `next` stays.
     pub fn free(self, toi: u64) -> Changed
-        requires { ⌜ Valid self ⌝ }
+        requires { ⌜ ValidAllocator self ⌝ }
         ensures { λ r. ⌜ Becomes (dropped-of false toi self) r ⌝ }
     {
         self.drop_entry(toi, false)

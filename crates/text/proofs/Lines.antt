@@ -9,7 +9,7 @@ use native.Mathlib.Omega.{arith}
 use lib.ListN.{length, take, drop, length-take}
 use lib.Seq.{take-take, take-length, length-take-le}
 use Rattle.text.specs.Bytes.{in-line, pass, part}
-use Rattle.text.specs.Lines.{line-of, StartsWith, Added, Refilled, Taken}
+use Rattle.text.specs.Lines.{line-from, StartsWith, Added, Refilled, Taken}
 use Rattle.text.specs.declared.line.Input.{Input}
 use Rattle.text.proofs.Lists.{pass-from, pass-within, part-in, part-length}
 
@@ -50,8 +50,8 @@ pub taken : (p before after : List ℕ) (was last : Bool) (from to : ℕ) (r : I
     → StartsWith p (part from to after)
     → (pass in-line (take to after) from ≡ to → (last ≡ true) ⊎ (to - from ≡ length after))
     → (was ≡ true → (last ≡ true) × (part from to after ≡ p))
-    → r ≡ line-of after from to last → Taken p before was after r
-unfolding line-of
+    → r ≡ line-from after from to last → Taken p before was after r
+unfolding line-from
 taken p before after was last from to r size h k kept whole stays e =
     let b = length-take-le to after k in
     let low = pass-from in-line (take to after) from in

@@ -11,7 +11,7 @@ use borrow.Author.Tests.{ltb-true, ltb-false, le-leb, lt-leb}
 use lib.Dec.{ltb}
 use lib.ListN.{length, set, take, drop, getD, length-drop, drop-of-length-le}
 use lib.Seq.{drop-cons, drop-drop, drop-set-lt, getD-drop, length-take-le, take-suc, take-suc-set}
-use Rattle.text.specs.Bytes.{run, pass, part}
+use Rattle.text.specs.Bytes.{run-length, pass, part}
 
 pub bool-cases : (b : Bool) → (b ≡ true) ⊎ (b ≡ false)
 bool-cases true = inl refl
@@ -27,29 +27,29 @@ lt-or-le k i = ⊎-elim (λ (t : ltb k i ≡ true). inl (ltb-true k i t)) (λ (t
 
 module _ (p : ℕ → Bool) where
   -- a run is a part of the list ..
-  pub run-within : (l : List ℕ) → run p l ≤ length l
-  unfolding run
+  pub run-within : (l : List ℕ) → run-length p l ≤ length l
+  unfolding run-length
   run-within [] = zero-le
   run-within (x ∷ l) = ⊎-elim (λ (t : p x ≡ true). rw t (suc-le-suc (run-within l))) (λ (t : p x ≡ false). rw t zero-le) (bool-cases (p x))
 
   -- .. and what stands behind it fails the test
-  run-stops : (l : List ℕ) → run p l < length l → p (getD l (run p l) 0) ≡ false
-  unfolding run
+  run-stops : (l : List ℕ) → run-length p l < length l → p (getD l (run-length p l) 0) ≡ false
+  unfolding run-length
   run-stops [] h = absurd (not-suc-le-zero h)
   run-stops (x ∷ l) h =
       ⊎-elim (λ (t : p x ≡ true). rw t (run-stops l (le-of-suc-le-suc (rw t at h)))) (λ (t : p x ≡ false). rw t t) (bool-cases (p x))
 
   module _ (s : List ℕ) (i : ℕ) where
     pub pass-more : i < length s → p (getD s i 0) ≡ true → pass p s i ≡ pass p s (i + 1)
-    unfolding run pass
+    unfolding run-length pass
     pass-more h e = rw (drop-cons s i 0 h, e, add-one i) (omega arith)
 
     pub pass-stop : i < length s → p (getD s i 0) ≡ false → pass p s i ≡ i
-    unfolding run pass
+    unfolding run-length pass
     pass-stop h e = rw (drop-cons s i 0 h, e) (omega arith)
 
     pub pass-end : length s ≤ i → pass p s i ≡ i
-    unfolding run pass
+    unfolding run-length pass
     pass-end h = rw (drop-of-length-le s h) (omega arith)
 
     pub pass-from : i ≤ pass p s i
@@ -62,7 +62,7 @@ module _ (p : ℕ → Bool) where
 
     pub pass-stops : pass p s i < length s → p (getD s (pass p s i) 0) ≡ false
     unfolding pass
-    pass-stops h = rw (← getD-drop i s (run p (drop i s)) 0) (run-stops (drop i s) (omega (arith, length-drop i s)))
+    pass-stops h = rw (← getD-drop i s (run-length p (drop i s)) 0) (run-stops (drop i s) (omega (arith, length-drop i s)))
 
   pub pass-moves : (s : List ℕ) (i : ℕ) → i < length s → p (getD s i 0) ≡ true → i < pass p s i
   pass-moves s i h e = omega (arith, pass-more s i h e, pass-from s (i + 1))

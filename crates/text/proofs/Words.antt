@@ -27,11 +27,6 @@ same-equal (x ∷ a) (y ∷ b) h =
     let e : x ≡ y = eqb-true x y (t .0) in
     let f : a ≡ b = same-equal a b (t .1) in cc
 
-same-self : (a : List ℕ) → same a a ≡ true
-unfolding same
-same-self [] = refl
-same-self (x ∷ a) = rw (eq-eqb x x refl) (same-self a)
-
 pub unlike-lengths : (a b : List ℕ) → (length a ≡ length b → ⊥) → same a b ≡ false
 unlike-lengths a b h = ⊎-elim (λ (t : same a b ≡ true). absurd (h (ap length (same-equal a b t)))) (λ (t : same a b ≡ false). t) (bool-cases (same a b))
 

@@ -25,13 +25,13 @@ member Ink = ink
 member InLine = in-line
 
 -- how many elements at the front pass the test
-unfoldable pub run : (ℕ → Bool) → List ℕ → ℕ
-run p [] = 0
-run p (x ∷ l) = cond (p x) (suc (run p l)) 0
+unfoldable pub run-length : (ℕ → Bool) → List ℕ → ℕ
+run-length p [] = 0
+run-length p (x ∷ l) = cond (p x) (suc (run-length p l)) 0
 
 -- the place behind the run that starts at `from`
 unfoldable pub pass : (ℕ → Bool) → List ℕ → ℕ → ℕ
-pass p s from = from + run p (drop from s)
+pass p s from = from + run-length p (drop from s)
 
 -- the bytes start..end of s; none where that is no part of s
 unfoldable pub part : ℕ → ℕ → List ℕ → List ℕ

@@ -1,7 +1,7 @@
 -- Texts and numbers put into a buffer.
 use mathlib.Core.Path.{_≡_}
 use mathlib.Core.Bool.{cond}
-use mathlib.Core.List.{List, _++_}
+use mathlib.Core.List.{List, _∷_, _++_}
 use Prim.Native.Nat.{ℕ, zero, suc, _+_, _/_, _<_, _≤_}
 use lib.Dec.{ltb}
 use lib.ListN.{length, take, drop}
@@ -15,6 +15,10 @@ places (suc k) n = cond (ltb n 10) 1 (suc (places k (n / 10)))
 -- a number in decimal with no zero in front
 unfoldable pub decimal : ℕ → List ℕ
 decimal n = digits 10 (places n n) n
+
+-- a blank (32), and a number in decimal
+abbrev pub next-text : ℕ → List ℕ
+next-text n = 32 ∷ decimal n
 
 -- the buffer `before` is filled as far as `at`, and then, as `after`, as far as r: the text stands behind what was there,
 -- and the bytes behind the text are as they were

@@ -7,19 +7,11 @@
 //
 //     let mut space = io::large_buffer();
 //     let buf: &mut [u8] = &mut space;
-//     let mut at = text::unread();
-//     let mut turns = u64::MAX;
-//     while turns > 0 {
-//         at = text::take_line(STDIN_FILENO, buf, at);
-//         if at.over {
-//             return;
-//         }
-//         answer(text::part(buf, at.start, at.end));
-//         turns -= 1;
+//     let mut lines = text::open_lines(STDIN_FILENO, buf);
+//     while 0 < lines.left {
+//         answer(text::this_line(buf, lines));
+//         lines = text::next_line(STDIN_FILENO, buf, lines);
 //     }
-//
-// A proved loop has to end, and nothing says that the input does: so the turns are counted down, from a
-// number that no run uses up.
 mod bytes;
 mod line;
 mod number;
@@ -28,13 +20,19 @@ mod word;
 
 pub use bytes::part;
 pub use line::Input;
+pub use line::LONGEST;
+pub use line::Lines;
+pub use line::next_line;
+pub use line::open_lines;
 pub use line::refill;
 pub use line::take_line;
+pub use line::this_line;
 pub use line::unread;
 pub use number::Field;
 pub use number::Number;
 pub use number::next_number;
 pub use number::number_of;
+pub use put::put_next;
 pub use put::put_number;
 pub use put::put_text;
 pub use word::Word;

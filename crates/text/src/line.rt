@@ -3,7 +3,7 @@ ghost use mathlib.Core.Path.{_≡_};
 ghost use Prim.Native.Nat.{_+_, _≤_};
 ghost use lib.ListN.{length, take, drop};
 ghost use Rattle.text.specs.Bytes.{part};
-ghost use Rattle.text.specs.Lines.{Refilled, Added, Taken, line-of, nothing-read};
+ghost use Rattle.text.specs.Lines.{Refilled, Added, Taken, NextLine, line-from, nothing-read, most-lines};
 use crate::bytes::Class;
 use crate::bytes::pass;
 
@@ -116,7 +116,7 @@ fn take_from(fd: i32, buf: &mut [u8], from: usize, to: usize, ended: bool) -> In
 // The first line of from..to.
 fn first_line(s: &[u8], from: usize, to: usize, ended: bool) -> Input
     requires { ⌜ (from ≤ to) × (to ≤ length (now s)) ⌝ }
-    ensures { λ r. ⌜ r ≡ line-of (now (s .entry)) from to ended ⌝ }
+    ensures { λ r. ⌜ r ≡ line-from (now (s .entry)) from to ended ⌝ }
 {
     let end = pass(Class::InLine, &s[..to], from);
     let over = from == to;
@@ -138,4 +138,51 @@ fn first_line(s: &[u8], from: usize, to: usize, ended: bool) -> Input
         over,
         ended,
     }
+}
+
+// The longest line that a program reads. One that fills the reading buffer may be cut there, so it is no command.
+pub const LONGEST: usize = 65535;
+
+// The line taken last, and how many may still be taken, with this one: 0 where none was left. A proved loop has to end,
+// and nothing says that the input does: so the lines are counted down, from a number that no run uses up.
+pub struct Lines {
+    pub at: Input,
+    pub left: u64,
+}
+
+// Takes the first line of what fd gives.
+pub fn open_lines(fd: i32, buf: &mut [u8]) -> Lines
+    ensures { λ r. ⌜ NextLine (record { at = nothing-read; left = most-lines }) (now (buf .entry)) (now (buf .exit)) r ⌝ }
+{
+    let none = Lines {
+        at: unread(),
+        left: u64::MAX,
+    };
+    next_line(fd, buf, none)
+}
+
+// Takes the next one.
+pub fn next_line(fd: i32, buf: &mut [u8], was: Lines) -> Lines
+    ensures { λ r. ⌜ NextLine was (now (buf .entry)) (now (buf .exit)) r ⌝ }
+{
+    let before = was.at;
+    let at = take_line(fd, buf, before);
+    if at.over {
+        return Lines { at, left: 0 };
+    }
+    if was.left == 0 {
+        return Lines { at, left: 0 };
+    }
+    Lines {
+        at,
+        left: was.left - 1,
+    }
+}
+
+// The bytes of the line taken last.
+pub fn this_line(buf: &[u8], lines: Lines) -> &[u8]
+    ensures { λ r. ⌜ now r ≡ part (lines .at .start) (lines .at .end) (now (buf .entry)) ⌝ }
+{
+    let at = lines.at;
+    crate::bytes::part(buf, at.start, at.end)
 }

@@ -1,7 +1,7 @@
 // Texts and numbers that are put into a buffer one behind another.
 ghost use Prim.Native.Nat.{_+_, _≤_};
 ghost use lib.ListN.{length};
-ghost use Rattle.text.specs.Put.{Put, Appended, decimal};
+ghost use Rattle.text.specs.Put.{Put, Appended, decimal, next-text};
 
 // Puts the text behind the first `at` bytes of out, and answers where it ends. Where it does not fit,
 // out stays as it is, and the answer is `at`.
@@ -24,6 +24,14 @@ pub fn put_number(out: &mut [u8], at: usize, n: u64) -> usize
     let mut digits = [0u8; 20];
     let k = io::decimal(n, &mut digits);
     put_text(out, at, &digits[..k])
+}
+
+// The same for a blank and a number, where there is room for both.
+pub fn put_next(out: &mut [u8], at: usize, n: u64) -> usize
+    ensures { λ r. ⌜ (at + length (next-text n) ≤ length (now (out .entry)) → Appended (now (out .entry)) at (next-text n) (now (out .exit)) r) ⌝ }
+{
+    let from = put_text(out, at, b" ");
+    put_number(out, from, n)
 }
 
 // The same for a text that fits.

@@ -10,15 +10,10 @@ use text::Word;
 fn main() {
     let mut space = io::large_buffer();
     let buf: &mut [u8] = &mut space;
-    let mut at = text::unread();
-    let mut turns = u64::MAX;
-    while turns > 0 {
-        at = text::take_line(STDIN_FILENO, buf, at);
-        if at.over {
-            return;
-        }
-        answer(text::part(buf, at.start, at.end));
-        turns -= 1;
+    let mut lines = text::open_lines(STDIN_FILENO, buf);
+    while 0 < lines.left {
+        answer(text::this_line(buf, lines));
+        lines = text::next_line(STDIN_FILENO, buf, lines);
     }
 }
 
@@ -26,13 +21,13 @@ fn main() {
 fn answer(line: &[u8]) {
     let mut from = 0;
     while from < line.len() {
-        from = put_next(line, from);
+        from = write_next(line, from);
     }
     io::write_all(STDOUT_FILENO, b"\n");
 }
 
 // Writes what the next word is, behind a space where it is not the first, and answers the place behind it.
-fn put_next(line: &[u8], from: usize) -> usize
+fn write_next(line: &[u8], from: usize) -> usize
     requires { ⌜ from < length (now line) ⌝ }
     ensures { λ r. ⌜ from < r ⌝ }
 {

@@ -2,5 +2,5 @@
 pub mod PackingLaws
 pub mod RecordLaws
 pub mod WordLaws
-pub mod Promised
+pub mod RecordPromised
 pub mod Examples

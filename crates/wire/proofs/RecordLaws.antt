@@ -13,13 +13,13 @@ use lib.ListN.{length, take, drop, length-drop}
 use lib.Seq.{drop-drop, take-all}
 use Rattle.sizes.specs.Words.{one-if}
 use Rattle.sizes.proofs.Tests.{Tested, pass, fail, tested, and-left}
-use Rattle.wire.specs.Packing.{Field, widths, values, total, join, fits, split, fields, bytes-of, number-of}
-use Rattle.wire.specs.Record.{bits, layout, with-values, padding, record-widths, record-size, well-named, good, written, values-in, writable, write-answer, write-buffer, Writes, readable, read-answer, Reads}
-use Rattle.wire.specs.RecordWords.{first-fields, second-fields, third-fields, last-fields, spread, record-in}
+use Rattle.wire.specs.Packing.{Field, field-widths, total, join, fields-fit, split-bits, last-bytes, number-spelled}
+use Rattle.wire.specs.Record.{in-bits, layout, with-values, padding, record-widths, record-size, well-named, good, written, values-in, writable, write-answer, write-buffer, RecordWrites, readable, read-answer, RecordReads}
+use Rattle.wire.specs.RecordWords.{first-fields, second-fields, third-fields, last-fields, record-in}
 use Rattle.wire.specs.declared.record.Record.{Record}
 use Rattle.wire.specs.declared.record.Writing.the-variants.{Done, Refused}
 use Rattle.wire.specs.declared.record.Reading.the-variants.{Fields, Refused as NoRecord}
-use Rattle.wire.proofs.PackingLaws.{below-product, high-part, low-part, join-split-below, number-cut, join-append, split-join, fits-head, fits-tail, fits-both, bytes-word}
+use Rattle.wire.proofs.PackingLaws.{field-values, with-widths, below-product, high-part, low-part, join-split-below, number-cut, join-append, split-join, fits-head, fits-tail, fits-both, bytes-word}
 
 -- no value is too wide
 pub record Fit (r : Record) : Type 0 where
@@ -36,11 +36,11 @@ pub flag-below : (b : Bool) → one-if b < 2
 flag-below true = omega arith
 flag-below false = omega arith
 
-no-fields-fit : fits [] ≡ true
-unfolding fits
+no-fields-fit : fields-fit [] ≡ true
+unfolding fields-fit
 no-fields-fit = refl
 
-pub fit-of : (r : Record) → fits (layout r) ≡ true → Fit r
+pub fit-of : (r : Record) → fields-fit (layout r) ≡ true → Fit r
 unfolding layout
 fit-of r h =
     let h2 = fits-tail _ _ (fits-tail _ _ h) in
@@ -60,7 +60,7 @@ fit-of r h =
       symbols = fits-head _ _ h8;
     }
 
-pub fit-fits : (r : Record) → Fit r → fits (layout r) ≡ true
+pub fit-fits : (r : Record) → Fit r → fields-fit (layout r) ≡ true
 unfolding layout
 fit-fits r f =
     fits-both _ _ (flag-below (r .«is_fdt»))
@@ -76,7 +76,7 @@ fit-fits r f =
 
 pub good-fit : (r : Record) → good r ≡ true → Fit r
 unfolding good
-good-fit r h = fit-of r (and-left (fits (layout r)) (well-named r) h)
+good-fit r h = fit-of r (and-left (fields-fit (layout r)) (well-named r) h)
 
 -- what is too wide is not good, and else the numbers decide
 pub wide-bad : (r : Record) → (Fit r → ⊥) → good r ≡ false
@@ -103,6 +103,10 @@ pub object-named : (r : Record) → r .«is_fdt» ≡ false → (r .toi ≡ 0 �
 unfolding well-named
 object-named r e n = rw (e, lt-ltb 0 (r .toi) (omega arith))
 
+-- four words as one number
+unfoldable spread : ℕ → ℕ → ℕ → ℕ → ℕ
+spread a b c d = a * 2 ^ 160 + (b * 2 ^ 96 + (c * 2 ^ 32 + d))
+
 -- a field cut in two
 cut-value : (v k t x : ℕ) → v * 2 ^ t + x ≡ v / 2 ^ k * 2 ^ (k + t) + (v % 2 ^ k * 2 ^ t + x)
 cut-value v k t x =
@@ -124,7 +128,7 @@ module _ (r : Record) where
       (cut-value (r .length) 6 90 _
       ∙ ap (λ x. r .length / 2 ^ 6 * 2 ^ 96 + (r .length % 2 ^ 6 * 2 ^ 90 + (r .total * 2 ^ 42 + x))) (cut-value (r .symbols) 6 26 0)))
 
-  pub in-words : join (layout r) ≡ spread (join (first-fields r)) (join (second-fields r)) (join (third-fields r)) (join (last-fields r))
+  in-words : join (layout r) ≡ spread (join (first-fields r)) (join (second-fields r)) (join (third-fields r)) (join (last-fields r))
   unfolding in-fields total spread first-fields second-fields third-fields last-fields
   in-words =
       regrouped
@@ -148,20 +152,20 @@ module _ (r : Record) where
   last-sum = omega arith
 
 -- the bytes of four words
-pub spread-bytes : (a b c d : ℕ) → b < 2 ^ 64 → c < 2 ^ 64 → d < 2 ^ 32
-    → bytes-of 28 (spread a b c d) ≡ bytes-of 8 a ++ (bytes-of 8 b ++ (bytes-of 8 c ++ bytes-of 4 d))
+spread-bytes : (a b c d : ℕ) → b < 2 ^ 64 → c < 2 ^ 64 → d < 2 ^ 32
+    → last-bytes 28 (spread a b c d) ≡ last-bytes 8 a ++ (last-bytes 8 b ++ (last-bytes 8 c ++ last-bytes 4 d))
 unfolding spread total
 spread-bytes a b c d hb hc hd =
     let lc : c * 2 ^ 32 + d < 2 ^ 96 = below-product c (2 ^ 64) d (2 ^ 32) hc hd in
     let lb : b * 2 ^ 96 + (c * 2 ^ 32 + d) < 2 ^ 160 = below-product b (2 ^ 64) _ (2 ^ 96) hb lc in
     bytes-word 8 20 a _ lb
-    ∙ ap (λ l. bytes-of 8 a ++ l) (bytes-word 8 12 b _ lc ∙ ap (λ l. bytes-of 8 b ++ l) (bytes-word 8 4 c d hd))
+    ∙ ap (λ l. last-bytes 8 a ++ l) (bytes-word 8 12 b _ lc ∙ ap (λ l. last-bytes 8 b ++ l) (bytes-word 8 4 c d hd))
 
 pub written-words : (r : Record) → Fit r
-    → written r ≡ bytes-of 8 (join (first-fields r)) ++ (bytes-of 8 (join (second-fields r)) ++ (bytes-of 8 (join (third-fields r)) ++ bytes-of 4 (join (last-fields r))))
+    → written r ≡ last-bytes 8 (join (first-fields r)) ++ (last-bytes 8 (join (second-fields r)) ++ (last-bytes 8 (join (third-fields r)) ++ last-bytes 4 (join (last-fields r))))
 unfolding written
 written-words r f =
-    ap (bytes-of 28) (in-words r)
+    ap (last-bytes 28) (in-words r)
     ∙ spread-bytes _ _ _ _ (omega (arith, second-sum r)) (omega (arith, third-sum r)) (omega (arith, last-sum r))
 
 -- a flag as a number, and back
@@ -175,7 +179,7 @@ flag-value (suc zero) h = refl
 flag-value (suc (suc n)) h = absurd (omega arith)
 
 -- the values of a record's fields are the record
-pub values-back : (r : Record) → with-values (values (layout r)) ≡ r
+pub values-back : (r : Record) → with-values (field-values (layout r)) ≡ r
 unfolding with-values layout
 values-back r = λ i. record {
   «is_fdt» = flag-back (r .«is_fdt») i;
@@ -190,9 +194,9 @@ values-back r = λ i. record {
 }
 
 -- bytes that spell a record's number hold its values
-pub values-spelt : (bs : List ℕ) (r : Record) → Fit r → number-of bs ≡ join (layout r) → values-in bs ≡ values (layout r)
+pub values-spelt : (bs : List ℕ) (r : Record) → Fit r → number-spelled bs ≡ join (layout r) → values-in bs ≡ field-values (layout r)
 unfolding values-in record-widths layout with-values
-values-spelt bs r f e = ap (split (widths (layout r))) e ∙ split-join (layout r) (fit-fits r f)
+values-spelt bs r f e = ap (split-bits (field-widths (layout r))) e ∙ split-join (layout r) (fit-fits r f)
 
 -- the values in a word, and in two halves of a field
 pair-below : (x y k m : ℕ) → x % 2 ^ k * 2 ^ m + y % 2 ^ m < 2 ^ (k + m)
@@ -222,45 +226,45 @@ module _ (a b c d : ℕ) where
   }
 
   first-held : a < 2 ^ 64 → join (first-fields (record-in a b c d)) ≡ a
-  unfolding record-in first-fields fields split total
+  unfolding record-in first-fields with-widths split-bits total
   first-held h =
-      (λ i. join (bits 1 (bit-flag (a / 2 ^ 63) i) ∷ bits 1 (bit-flag (a / 2 ^ 62) i) ∷ bits 20 (a / 2 ^ 42 % 2 ^ 20) ∷ bits 42 (pair-high a (b / 2 ^ 42) 42 22 i) ∷ []))
+      (λ i. join (in-bits 1 (bit-flag (a / 2 ^ 63) i) ∷ in-bits 1 (bit-flag (a / 2 ^ 62) i) ∷ in-bits 20 (a / 2 ^ 42 % 2 ^ 20) ∷ in-bits 42 (pair-high a (b / 2 ^ 42) 42 22 i) ∷ []))
       ∙ join-split-below (1 ∷ 1 ∷ 20 ∷ 42 ∷ []) a h
 
   second-held : b < 2 ^ 64 → join (second-fields (record-in a b c d)) ≡ b
-  unfolding record-in second-fields fields split total
+  unfolding record-in second-fields with-widths split-bits total
   second-held h =
-      (λ i. join (bits 22 (pair-low a (b / 2 ^ 42) 42 22 i) ∷ bits 16 (b / 2 ^ 26 % 2 ^ 16) ∷ bits 16 (b / 2 ^ 10 % 2 ^ 16) ∷ bits 10 (pair-high b (c / 2 ^ 58) 10 6 i) ∷ []))
+      (λ i. join (in-bits 22 (pair-low a (b / 2 ^ 42) 42 22 i) ∷ in-bits 16 (b / 2 ^ 26 % 2 ^ 16) ∷ in-bits 16 (b / 2 ^ 10 % 2 ^ 16) ∷ in-bits 10 (pair-high b (c / 2 ^ 58) 10 6 i) ∷ []))
       ∙ join-split-below (22 ∷ 16 ∷ 16 ∷ 10 ∷ []) b h
 
   third-held : c < 2 ^ 64 → join (third-fields (record-in a b c d)) ≡ c
-  unfolding record-in third-fields fields split total
+  unfolding record-in third-fields with-widths split-bits total
   third-held h =
-      (λ i. join (bits 6 (pair-low b (c / 2 ^ 58) 10 6 i) ∷ bits 48 (c / 2 ^ 10 % 2 ^ 48) ∷ bits 10 (pair-high c (d / 2 ^ 26) 10 6 i) ∷ []))
+      (λ i. join (in-bits 6 (pair-low b (c / 2 ^ 58) 10 6 i) ∷ in-bits 48 (c / 2 ^ 10 % 2 ^ 48) ∷ in-bits 10 (pair-high c (d / 2 ^ 26) 10 6 i) ∷ []))
       ∙ join-split-below (6 ∷ 48 ∷ 10 ∷ []) c h
 
   last-held : d < 2 ^ 32 → d % 2 ^ 26 ≡ 0 → join (last-fields (record-in a b c d)) ≡ d
-  unfolding record-in last-fields fields split total
+  unfolding record-in last-fields with-widths split-bits total
   last-held h z =
       let z' : 0 ≡ d / 1 % 2 ^ 26 = sym (ap (λ n. n % 2 ^ 26) (div-one d) ∙ z) in
-      (λ i. join (bits 6 (pair-low c (d / 2 ^ 26) 10 6 i) ∷ bits 26 (z' i) ∷ [])) ∙ join-split-below (6 ∷ 26 ∷ []) d h
+      (λ i. join (in-bits 6 (pair-low c (d / 2 ^ 26) 10 6 i) ∷ in-bits 26 (z' i) ∷ [])) ∙ join-split-below (6 ∷ 26 ∷ []) d h
 
-  pub words-held : a < 2 ^ 64 → b < 2 ^ 64 → c < 2 ^ 64 → d < 2 ^ 32 → d % 2 ^ 26 ≡ 0 → join (layout (record-in a b c d)) ≡ spread a b c d
+  words-held : a < 2 ^ 64 → b < 2 ^ 64 → c < 2 ^ 64 → d < 2 ^ 32 → d % 2 ^ 26 ≡ 0 → join (layout (record-in a b c d)) ≡ spread a b c d
   words-held ha hb hc hd z = in-words (record-in a b c d) ∙ (λ i. spread (first-held ha i) (second-held hb i) (third-held hc i) (last-held hd z i))
 
 -- four words of 28 bytes
-pub number-words : (bs : List ℕ) → length bs ≡ 28
-    → number-of bs ≡ spread (number-of (take 8 (drop 0 bs))) (number-of (take 8 (drop 8 bs))) (number-of (take 8 (drop 16 bs))) (number-of (take 4 (drop 24 bs)))
+number-words : (bs : List ℕ) → length bs ≡ 28
+    → number-spelled bs ≡ spread (number-spelled (take 8 (drop 0 bs))) (number-spelled (take 8 (drop 8 bs))) (number-spelled (take 8 (drop 16 bs))) (number-spelled (take 4 (drop 24 bs)))
 unfolding spread total
 number-words bs h =
-    let a = number-of (take 8 bs) in
-    let b = number-of (take 8 (drop 8 bs)) in
-    let c = number-of (take 8 (drop 16 bs)) in
+    let a = number-spelled (take 8 bs) in
+    let b = number-spelled (take 8 (drop 8 bs)) in
+    let c = number-spelled (take 8 (drop 16 bs)) in
     number-cut bs 8 20 h
     ∙ ap (λ x. a * 2 ^ 160 + x) (number-cut (drop 8 bs) 8 12 (length-drop 8 bs ∙ omega arith)
-    ∙ ap (λ l. b * 2 ^ 96 + number-of l) (drop-drop 8 8 bs)
+    ∙ ap (λ l. b * 2 ^ 96 + number-spelled l) (drop-drop 8 8 bs)
     ∙ ap (λ x. b * 2 ^ 96 + x) (number-cut (drop 16 bs) 8 4 (length-drop 16 bs ∙ omega arith)
-    ∙ ap (λ l. c * 2 ^ 32 + number-of l) (drop-drop 8 16 bs ∙ sym (take-all 4 (drop 24 bs) (omega (arith, length-drop 24 bs))))))
+    ∙ ap (λ l. c * 2 ^ 32 + number-spelled l) (drop-drop 8 16 bs ∙ sym (take-all 4 (drop 24 bs) (omega (arith, length-drop 24 bs))))))
 
 -- what lies above the last 26 bits is not seen there
 above-padding : (a k y : ℕ) → (a * (k * 2 ^ 26) + y) % 2 ^ 26 ≡ y % 2 ^ 26
@@ -270,14 +274,14 @@ padding-spread : (a b c d : ℕ) → spread a b c d % 2 ^ 26 ≡ d % 2 ^ 26
 unfolding spread
 padding-spread a b c d = above-padding a (2 ^ 134) _ ∙ above-padding b (2 ^ 70) _ ∙ above-padding c (2 ^ 6) d
 
-padding-of-number : (bs : List ℕ) → padding (values-in bs) ≡ number-of bs % 2 ^ 26
-unfolding padding values-in split record-widths layout with-values total
-padding-of-number bs = ap (λ n. n % 2 ^ 26) (div-one (number-of bs))
+padding-of-number : (bs : List ℕ) → padding (values-in bs) ≡ number-spelled bs % 2 ^ 26
+unfolding padding values-in split-bits record-widths layout with-values total
+padding-of-number bs = ap (λ n. n % 2 ^ 26) (div-one (number-spelled bs))
 
 -- what 28 bytes hold, by their four words
-module _ (bs : List ℕ) (h : length bs ≡ record-size) (a b c d : ℕ) (ea : a ≡ number-of (take 8 (drop 0 bs))) (eb : b ≡ number-of (take 8 (drop 8 bs)))
-    (ec : c ≡ number-of (take 8 (drop 16 bs))) (ed : d ≡ number-of (take 4 (drop 24 bs))) where
-  words-number : number-of bs ≡ spread a b c d
+module _ (bs : List ℕ) (h : length bs ≡ record-size) (a b c d : ℕ) (ea : a ≡ number-spelled (take 8 (drop 0 bs))) (eb : b ≡ number-spelled (take 8 (drop 8 bs)))
+    (ec : c ≡ number-spelled (take 8 (drop 16 bs))) (ed : d ≡ number-spelled (take 4 (drop 24 bs))) where
+  words-number : number-spelled bs ≡ spread a b c d
   words-number = number-words bs h ∙ (λ i. spread (sym ea i) (sym eb i) (sym ec i) (sym ed i))
 
   pub words-padding : padding (values-in bs) ≡ d % 2 ^ 26
@@ -295,44 +299,44 @@ byte-flag false = refl
 
 -- what a write does: refused for want of room or for the fields, or done
 module _ (before : List ℕ) (r : Record) where
-  pub write-short : length before < record-size → Writes before r Refused before
+  pub write-short : length before < record-size → RecordWrites before r Refused before
   unfolding write-answer write-buffer writable
   write-short h = record { answer = rw (lt-leb record-size (length before) h); buffer = rw (lt-leb record-size (length before) h) }
 
-  pub write-bad : record-size ≤ length before → good r ≡ false → Writes before r Refused before
+  pub write-bad : record-size ≤ length before → good r ≡ false → RecordWrites before r Refused before
   unfolding write-answer write-buffer writable
   write-bad h g = record { answer = rw (le-leb record-size (length before) h, g); buffer = rw (le-leb record-size (length before) h, g) }
 
-  pub write-done : (after : List ℕ) → record-size ≤ length before → good r ≡ true → after ≡ written r ++ drop record-size before → Writes before r Done after
+  pub write-done : (after : List ℕ) → record-size ≤ length before → good r ≡ true → after ≡ written r ++ drop record-size before → RecordWrites before r Done after
   unfolding write-answer write-buffer writable
   write-done after h g e = record { answer = rw (le-leb record-size (length before) h, g); buffer = rw (le-leb record-size (length before) h, g) e }
 
   -- done, by the four words
   pub write-words : (after : List ℕ) (a b c d : ℕ) → record-size ≤ length before → good r ≡ true
-      → after ≡ bytes-of 8 a ++ (bytes-of 8 b ++ (bytes-of 8 c ++ (bytes-of 4 d ++ drop record-size before)))
-      → a ≡ join (first-fields r) → b ≡ join (second-fields r) → c ≡ join (third-fields r) → d ≡ join (last-fields r) → Writes before r Done after
+      → after ≡ last-bytes 8 a ++ (last-bytes 8 b ++ (last-bytes 8 c ++ (last-bytes 4 d ++ drop record-size before)))
+      → a ≡ join (first-fields r) → b ≡ join (second-fields r) → c ≡ join (third-fields r) → d ≡ join (last-fields r) → RecordWrites before r Done after
   write-words after a b c d h g e ea eb ec ed =
       let l = drop record-size before in
       write-done after h g
       (e
-      ∙ (λ i. bytes-of 8 (ea i) ++ (bytes-of 8 (eb i) ++ (bytes-of 8 (ec i) ++ (bytes-of 4 (ed i) ++ l))))
+      ∙ (λ i. last-bytes 8 (ea i) ++ (last-bytes 8 (eb i) ++ (last-bytes 8 (ec i) ++ (last-bytes 4 (ed i) ++ l))))
       ∙ sym (ap (λ w. w ++ l) (written-words r (good-fit r g)) ∙ simp append-assoc))
 
 -- what a read answers, by its tests
 module _ (bs : List ℕ) where
-  pub read-unlike : (length bs ≡ record-size → ⊥) → Reads bs NoRecord
+  pub read-unlike : (length bs ≡ record-size → ⊥) → RecordReads bs NoRecord
   unfolding read-answer readable
   read-unlike h = record { answer = rw (ne-eqb (length bs) record-size h) }
 
-  pub read-padded : length bs ≡ record-size → (padding (values-in bs) ≡ 0 → ⊥) → Reads bs NoRecord
+  pub read-padded : length bs ≡ record-size → (padding (values-in bs) ≡ 0 → ⊥) → RecordReads bs NoRecord
   unfolding read-answer readable
   read-padded h p = record { answer = rw (eq-eqb (length bs) record-size h, ne-eqb (padding (values-in bs)) 0 p) }
 
   module _ (r : Record) (h : length bs ≡ record-size) (p : padding (values-in bs) ≡ 0) (e : with-values (values-in bs) ≡ r) where
-    pub read-bad : good r ≡ false → Reads bs NoRecord
+    pub read-bad : good r ≡ false → RecordReads bs NoRecord
     unfolding read-answer readable
     read-bad g = record { answer = rw (eq-eqb (length bs) record-size h, eq-eqb (padding (values-in bs)) 0 p, e, g) }
 
-    pub read-good : good r ≡ true → Reads bs (Fields r)
+    pub read-good : good r ≡ true → RecordReads bs (Fields r)
     unfolding read-answer readable
     read-good g = record { answer = rw (eq-eqb (length bs) record-size h, eq-eqb (padding (values-in bs)) 0 p, e, g) }

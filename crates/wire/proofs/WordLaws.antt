@@ -7,7 +7,7 @@ use native.Mathlib.Omega.{arith}
 use lib.ListN.{length, take, drop, getD, set, length-append, length-set, length-drop, take-append-drop}
 use lib.Seq.{take-at, drop-append-add, drop-drop, drop-cons, take-suc, take-take, take-set-le, drop-set-lt, getD-set-same, getD-drop}
 use lib.Pow.{pow-add, pow-mono}
-use Rattle.wire.specs.Packing.{split, bytes-of, number-of}
+use Rattle.wire.specs.Packing.{split-bits, last-bytes, number-spelled}
 use Rattle.wire.proofs.PackingLaws.{below-product, bytes-length, bytes-snoc, number-snoc}
 
 -- of the n bytes of w at `at`, those behind the first i stand in out; the first i are those of rest
@@ -15,7 +15,7 @@ pub record Putting (before : List ℕ) (at n w : ℕ) (out : List ℕ) (rest i :
   pub left : i ≤ n
   pub size : length out ≡ length before
   pub front : take (at + i) out ≡ take (at + i) before
-  pub back : bytes-of i rest ++ drop (at + i) out ≡ bytes-of n w ++ drop (at + n) before
+  pub back : last-bytes i rest ++ drop (at + i) out ≡ last-bytes n w ++ drop (at + n) before
 
 one-stored : (out : List ℕ) (k b : ℕ) → k < length out → drop k (set out k b) ≡ b ∷ drop (k + 1) out
 one-stored out k b h =
@@ -41,19 +41,19 @@ module _ (before : List ℕ) (at n w : ℕ) where
             ∙ ap (take (at + j)) (p .front)
             ∙ take-take (at + j) (at + (j + 1)) before (omega arith);
         back =
-            ap (λ l. bytes-of j (rest / 256) ++ l) (one-stored out (at + j) (rest % 256) inside)
-            ∙ sym (append-assoc (bytes-of j (rest / 256)) (rest % 256 ∷ []) (drop (at + j + 1) out))
+            ap (λ l. last-bytes j (rest / 256) ++ l) (one-stored out (at + j) (rest % 256) inside)
+            ∙ sym (append-assoc (last-bytes j (rest / 256)) (rest % 256 ∷ []) (drop (at + j + 1) out))
             ∙ ap (λ l. l ++ drop (at + j + 1) out) (sym (bytes-snoc j rest))
-            ∙ ap (λ k. bytes-of (j + 1) rest ++ drop k out) next
+            ∙ ap (λ k. last-bytes (j + 1) rest ++ drop k out) next
             ∙ p .back;
       }
 
-  pub put-all : (out : List ℕ) (rest : ℕ) → Putting before at n w out rest 0 → out ≡ take at before ++ (bytes-of n w ++ drop (at + n) before)
-  unfolding bytes-of split
+  pub put-all : (out : List ℕ) (rest : ℕ) → Putting before at n w out rest 0 → out ≡ take at before ++ (last-bytes n w ++ drop (at + n) before)
+  unfolding last-bytes split-bits
   put-all out rest p =
       let z : at + 0 ≡ at = omega arith in
       let f : take at out ≡ take at before = rw z at (p .front) in
-      let b : drop at out ≡ bytes-of n w ++ drop (at + n) before = rw z at (p .back) in
+      let b : drop at out ≡ last-bytes n w ++ drop (at + n) before = rw z at (p .back) in
       sym (take-append-drop at out) ∙ (λ i. f i ++ b i)
 
 -- where p stands in front of rest, x is put behind p
@@ -65,24 +65,24 @@ behind p x rest out next at n h e q =
     q ∙ (λ i. f i ++ (x ++ g i)) ∙ sym (append-assoc p x (drop n rest))
 
 -- four words are put one behind the other
-pub put-four : (before o1 o2 o3 o4 : List ℕ) (a b c d : ℕ) → o1 ≡ take 0 before ++ (bytes-of 8 a ++ drop 8 before)
-    → o2 ≡ take 8 o1 ++ (bytes-of 8 b ++ drop 16 o1) → o3 ≡ take 16 o2 ++ (bytes-of 8 c ++ drop 24 o2) → o4 ≡ take 24 o3 ++ (bytes-of 4 d ++ drop 28 o3)
-    → o4 ≡ bytes-of 8 a ++ (bytes-of 8 b ++ (bytes-of 8 c ++ (bytes-of 4 d ++ drop 28 before)))
+pub put-four : (before o1 o2 o3 o4 : List ℕ) (a b c d : ℕ) → o1 ≡ take 0 before ++ (last-bytes 8 a ++ drop 8 before)
+    → o2 ≡ take 8 o1 ++ (last-bytes 8 b ++ drop 16 o1) → o3 ≡ take 16 o2 ++ (last-bytes 8 c ++ drop 24 o2) → o4 ≡ take 24 o3 ++ (last-bytes 4 d ++ drop 28 o3)
+    → o4 ≡ last-bytes 8 a ++ (last-bytes 8 b ++ (last-bytes 8 c ++ (last-bytes 4 d ++ drop 28 before)))
 put-four before o1 o2 o3 o4 a b c d q1 q2 q3 q4 =
-    let p2 = bytes-of 8 a ++ bytes-of 8 b in
-    let p3 = p2 ++ bytes-of 8 c in
+    let p2 = last-bytes 8 a ++ last-bytes 8 b in
+    let p3 = p2 ++ last-bytes 8 c in
     let l1 = bytes-length 8 a in
-    let l2 : length p2 ≡ 16 = length-append (bytes-of 8 a) (bytes-of 8 b) ∙ omega (arith, bytes-length 8 a, bytes-length 8 b) in
-    let l3 : length p3 ≡ 24 = length-append p2 (bytes-of 8 c) ∙ omega (arith, bytes-length 8 c) in
-    let e2 : o2 ≡ p2 ++ drop 16 before = behind (bytes-of 8 a) (bytes-of 8 b) (drop 8 before) o1 o2 8 8 l1 q1 q2 ∙ ap (λ l. p2 ++ l) (drop-drop 8 8 before) in
-    let e3 : o3 ≡ p3 ++ drop 24 before = behind p2 (bytes-of 8 c) (drop 16 before) o2 o3 16 8 l2 e2 q3 ∙ ap (λ l. p3 ++ l) (drop-drop 8 16 before) in
-    let e4 : o4 ≡ (p3 ++ bytes-of 4 d) ++ drop 28 before
-    = behind p3 (bytes-of 4 d) (drop 24 before) o3 o4 24 4 l3 e3 q4 ∙ ap (λ l. (p3 ++ bytes-of 4 d) ++ l) (drop-drop 4 24 before) in
+    let l2 : length p2 ≡ 16 = length-append (last-bytes 8 a) (last-bytes 8 b) ∙ omega (arith, bytes-length 8 a, bytes-length 8 b) in
+    let l3 : length p3 ≡ 24 = length-append p2 (last-bytes 8 c) ∙ omega (arith, bytes-length 8 c) in
+    let e2 : o2 ≡ p2 ++ drop 16 before = behind (last-bytes 8 a) (last-bytes 8 b) (drop 8 before) o1 o2 8 8 l1 q1 q2 ∙ ap (λ l. p2 ++ l) (drop-drop 8 8 before) in
+    let e3 : o3 ≡ p3 ++ drop 24 before = behind p2 (last-bytes 8 c) (drop 16 before) o2 o3 16 8 l2 e2 q3 ∙ ap (λ l. p3 ++ l) (drop-drop 8 16 before) in
+    let e4 : o4 ≡ (p3 ++ last-bytes 4 d) ++ drop 28 before
+    = behind p3 (last-bytes 4 d) (drop 24 before) o3 o4 24 4 l3 e3 q4 ∙ ap (λ l. (p3 ++ last-bytes 4 d) ++ l) (drop-drop 4 24 before) in
     e4 ∙ simp append-assoc
 
 -- one byte more is read
 module _ (bs : List ℕ) (at i : ℕ) where
-  pub word-more : at + i < length bs → number-of (take (i + 1) (drop at bs)) ≡ number-of (take i (drop at bs)) * 256 + getD bs (at + i) 0
+  pub word-more : at + i < length bs → number-spelled (take (i + 1) (drop at bs)) ≡ number-spelled (take i (drop at bs)) * 256 + getD bs (at + i) 0
   word-more h =
       rw (add-one i, take-suc (drop at bs) i 0 (omega (arith, length-drop at bs)), getD-drop at bs i 0) (number-snoc (take i (drop at bs)) (getD bs (at + i) 0))
 

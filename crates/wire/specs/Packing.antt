@@ -10,11 +10,8 @@ pub record Field : Type 0 where
   pub width : ℕ
   pub value : ℕ
 
-abbrev pub widths : List Field → List ℕ
-widths fs = map (λ f. f .width) fs
-
-abbrev pub values : List Field → List ℕ
-values fs = map (λ f. f .value) fs
+abbrev pub field-widths : List Field → List ℕ
+field-widths fs = map (λ f. f .width) fs
 
 -- how many bits all of them take
 unfoldable pub total : List ℕ → ℕ
@@ -24,31 +21,25 @@ total (w ∷ ws) = w + total ws
 -- the number that has the fields in its bits, the first one highest
 unfoldable pub join : List Field → ℕ
 join [] = 0
-join (f ∷ fs) = f .value * 2 ^ total (widths fs) + join fs
+join (f ∷ fs) = f .value * 2 ^ total (field-widths fs) + join fs
 
 -- does each value fit its width
-unfoldable pub fits : List Field → Bool
-fits [] = true
-fits (f ∷ fs) = ltb (f .value) (2 ^ f .width) && fits fs
+unfoldable pub fields-fit : List Field → Bool
+fields-fit [] = true
+fields-fit (f ∷ fs) = ltb (f .value) (2 ^ f .width) && fields-fit fs
 
 -- the values that stand in the bits of a number, for fields of these widths: each lies above the bits of those behind it
-unfoldable pub split : List ℕ → ℕ → List ℕ
-split [] n = []
-split (w ∷ ws) n = n / 2 ^ total ws % 2 ^ w ∷ split ws n
-
--- values with their widths
-unfoldable pub fields : List ℕ → List ℕ → List Field
-fields [] vs = []
-fields (w ∷ ws) [] = []
-fields (w ∷ ws) (v ∷ vs) = record { width = w; value = v } ∷ fields ws vs
+unfoldable pub split-bits : List ℕ → ℕ → List ℕ
+split-bits [] n = []
+split-bits (w ∷ ws) n = n / 2 ^ total ws % 2 ^ w ∷ split-bits ws n
 
 -- the last k bytes of a number
-unfoldable pub bytes-of : ℕ → ℕ → List ℕ
-bytes-of k n = split (replicate k 8) n
+unfoldable pub last-bytes : ℕ → ℕ → List ℕ
+last-bytes k n = split-bits (replicate k 8) n
 
 abbrev pub byte : ℕ → Field
 byte b = record { width = 8; value = b }
 
 -- the number that a list of bytes spells
-unfoldable pub number-of : List ℕ → ℕ
-number-of bs = join (map byte bs)
+unfoldable pub number-spelled : List ℕ → ℕ
+number-spelled bs = join (map byte bs)

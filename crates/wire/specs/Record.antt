@@ -7,29 +7,31 @@ use lib.Dec.{eqb, leb, ltb}
 use lib.ListN.{length, drop, getD}
 use Rattle.sizes.specs.Words.{if_then_else_, one-if}
 use Rattle.sizes.specs.Partition.{sbn, esi}
-use Rattle.wire.specs.Packing.{Field, widths, join, fits, split, bytes-of, number-of}
+use Rattle.sizes.specs.declared.refusal.Refusal.{Refusal}
+use Rattle.sizes.specs.declared.refusal.Refusal.the-variants as Because
+use Rattle.wire.specs.Packing.{Field, field-widths, join, fields-fit, split-bits, last-bytes, number-spelled}
 use Rattle.wire.specs.declared.record.Record.{Record}
 use Rattle.wire.specs.declared.record.Writing.{Writing}
 use Rattle.wire.specs.declared.record.Writing.the-variants.{Done, Refused}
 use Rattle.wire.specs.declared.record.Reading.{Reading}
 use Rattle.wire.specs.declared.record.Reading.the-variants.{Fields, Refused as NoRecord}
 
-abbrev pub bits : ℕ → ℕ → Field
-bits w v = record { width = w; value = v }
+abbrev pub in-bits : ℕ → ℕ → Field
+in-bits w v = record { width = w; value = v }
 
 -- the fields of a record, the most significant first
 unfoldable pub layout : Record → List Field
 layout r =
-    bits 1 (one-if (r .«is_fdt»))
-    ∷ bits 1 (one-if (r .close))
-    ∷ bits 20 (r .«fdt_id»)
-    ∷ bits 64 (r .toi)
-    ∷ bits 16 (r .block .0)
-    ∷ bits 16 (r .symbol .0)
-    ∷ bits 16 (r .length)
-    ∷ bits 48 (r .total)
-    ∷ bits 16 (r .symbols)
-    ∷ bits 26 0
+    in-bits 1 (one-if (r .«is_fdt»))
+    ∷ in-bits 1 (one-if (r .close))
+    ∷ in-bits 20 (r .«fdt_id»)
+    ∷ in-bits 64 (r .toi)
+    ∷ in-bits 16 (r .block .0)
+    ∷ in-bits 16 (r .symbol .0)
+    ∷ in-bits 16 (r .length)
+    ∷ in-bits 48 (r .total)
+    ∷ in-bits 16 (r .symbols)
+    ∷ in-bits 26 0
     ∷ []
 
 -- the record whose fields have these values, in the same order
@@ -53,7 +55,7 @@ padding vs = getD vs 9 0
 -- the widths are the same for every record
 unfoldable pub record-widths : List ℕ
 unfolding layout with-values
-record-widths = widths (layout (with-values []))
+record-widths = field-widths (layout (with-values []))
 
 -- in bytes
 abbrev pub record-size : ℕ
@@ -65,43 +67,43 @@ well-named r = if r .«is_fdt» then eqb (r .toi) 0 else ltb 0 (r .toi) && eqb (
 
 -- no value is too wide, and the numbers agree with the FDT flag
 unfoldable pub good : Record → Bool
-good r = fits (layout r) && well-named r
+good r = fields-fit (layout r) && well-named r
 
 -- the bytes of a record
 unfoldable pub written : Record → List ℕ
-written r = bytes-of record-size (join (layout r))
+written r = last-bytes record-size (join (layout r))
 
 -- the values that stand in some bytes
 unfoldable pub values-in : List ℕ → List ℕ
-values-in bs = split record-widths (number-of bs)
+values-in bs = split-bits record-widths (number-spelled bs)
 
--- what a call says: that it was done, the fields, or the number of its refusal
-pub data Said : Type 0 where
-  done : Said
-  fields : Record → Said
-  refused : ℕ → Said
+-- what a call says: that it was done, the fields, or why it is refused
+pub data RecordAnswer : Type 0 where
+  done : RecordAnswer
+  fields : Record → RecordAnswer
+  refused : Refusal → RecordAnswer
 
-abbrev pub write-said : Writing → Said
-write-said Done = done
-write-said Refused = refused 9
+abbrev pub writing-said : Writing → RecordAnswer
+writing-said Done = done
+writing-said Refused = refused Because.Record
 
-abbrev pub read-said : Reading → Said
-read-said (Fields r) = fields r
-read-said NoRecord = refused 9
+abbrev pub reading-said : Reading → RecordAnswer
+reading-said (Fields r) = fields r
+reading-said NoRecord = refused Because.Record
 
 -- is there room, and can the record be written
 unfoldable pub writable : List ℕ → Record → Bool
 writable out r = leb record-size (length out) && good r
 
 -- what a write answers, and what stands in the buffer then: the record's bytes and what stood behind them; or what stood there
-unfoldable pub write-answer : List ℕ → Record → Said
-write-answer out r = if writable out r then done else refused 9
+unfoldable pub write-answer : List ℕ → Record → RecordAnswer
+write-answer out r = if writable out r then done else refused Because.Record
 
 unfoldable pub write-buffer : List ℕ → Record → List ℕ
 write-buffer out r = if writable out r then written r ++ drop record-size out else out
 
-pub record Writes (before : List ℕ) (r : Record) (a : Writing) (after : List ℕ) : Type 0 where
-  pub answer : write-said a ≡ write-answer before r
+pub record RecordWrites (before : List ℕ) (r : Record) (a : Writing) (after : List ℕ) : Type 0 where
+  pub answer : writing-said a ≡ write-answer before r
   pub buffer : after ≡ write-buffer before r
 
 -- do the bytes have the length of a record, no bit in the padding, and fields that can be written
@@ -109,8 +111,8 @@ unfoldable pub readable : List ℕ → Bool
 readable bs = eqb (length bs) record-size && eqb (padding (values-in bs)) 0 && good (with-values (values-in bs))
 
 -- what a read answers
-unfoldable pub read-answer : List ℕ → Said
-read-answer bs = if readable bs then fields (with-values (values-in bs)) else refused 9
+unfoldable pub read-answer : List ℕ → RecordAnswer
+read-answer bs = if readable bs then fields (with-values (values-in bs)) else refused Because.Record
 
-pub record Reads (bs : List ℕ) (a : Reading) : Type 0 where
-  pub answer : read-said a ≡ read-answer bs
+pub record RecordReads (bs : List ℕ) (a : Reading) : Type 0 where
+  pub answer : reading-said a ≡ read-answer bs

@@ -1,11 +1,12 @@
--- What is promised of records: statements only, proved in proofs/Promised.
+-- What is promised of records: statements only, proved in proofs/RecordPromised.
 use mathlib.Core.Path.{_≡_}
 use mathlib.Core.Bool.{true, false}
 use mathlib.Core.List.{List, _++_}
 use Prim.Native.Nat.{ℕ, _^_, _≤_, _<_}
 use lib.ListN.{length, take, drop}
 use Rattle.sizes.specs.Words.{Each}
-use Rattle.wire.specs.Record.{done, fields, refused, record-size, good, written, padding, values-in, with-values, write-said, read-said, Writes, Reads}
+use Rattle.sizes.specs.declared.refusal.Refusal.the-variants as Because
+use Rattle.wire.specs.Record.{done, fields, refused, record-size, good, written, padding, values-in, with-values, writing-said, reading-said, RecordWrites, RecordReads}
 use Rattle.wire.specs.declared.record.Record.{Record}
 use Rattle.wire.specs.declared.record.Writing.{Writing}
 use Rattle.wire.specs.declared.record.Reading.{Reading}
@@ -41,31 +42,31 @@ pub data ReadFault (bs : List ℕ) : Type 0 where
 -- of one write
 pub record WritePromised (before : List ℕ) (r : Record) (a : Writing) (after : List ℕ) : Type 0 where
   -- it is refused for these faults and no other
-  pub refused-for : write-said a ≡ refused 9 → WriteFault before r
-  pub faults-refused : WriteFault before r → write-said a ≡ refused 9
-  pub else-done : (WriteFault before r → ⊥) → write-said a ≡ done
+  pub refused-for : writing-said a ≡ refused Because.Record → WriteFault before r
+  pub faults-refused : WriteFault before r → writing-said a ≡ refused Because.Record
+  pub else-done : (WriteFault before r → ⊥) → writing-said a ≡ done
   -- refused, it leaves every byte; done, it leaves every byte behind the record
-  pub untouched : write-said a ≡ refused 9 → after ≡ before
+  pub untouched : writing-said a ≡ refused Because.Record → after ≡ before
   pub kept : drop record-size after ≡ drop record-size before
   pub same-length : length after ≡ length before
   -- what is written reads back as the same record
-  pub reads-back : (b : Reading) → write-said a ≡ done → Reads (take record-size after) b → read-said b ≡ fields r
+  pub reads-back : (b : Reading) → writing-said a ≡ done → RecordReads (take record-size after) b → reading-said b ≡ fields r
 
 -- of one read
 pub record ReadPromised (bs : List ℕ) (a : Reading) : Type 0 where
   -- it is refused for these faults and no other
-  pub refused-for : read-said a ≡ refused 9 → ReadFault bs
-  pub faults-refused : ReadFault bs → read-said a ≡ refused 9
-  pub else-read : (ReadFault bs → ⊥) → read-said a ≡ fields (with-values (values-in bs))
+  pub refused-for : reading-said a ≡ refused Because.Record → ReadFault bs
+  pub faults-refused : ReadFault bs → reading-said a ≡ refused Because.Record
+  pub else-read : (ReadFault bs → ⊥) → reading-said a ≡ fields (with-values (values-in bs))
   -- an accepted record written again, into any buffer with room, gives the same bytes
-  pub writes-again : (r : Record) (before : List ℕ) (w : Writing) (after : List ℕ) → read-said a ≡ fields r → record-size ≤ length before
-      → Writes before r w after → (write-said w ≡ done) × (after ≡ bs ++ drop record-size before)
+  pub writes-again : (r : Record) (before : List ℕ) (w : Writing) (after : List ℕ) → reading-said a ≡ fields r → record-size ≤ length before
+      → RecordWrites before r w after → (writing-said w ≡ done) × (after ≡ bs ++ drop record-size before)
   -- the bytes of a good record, and no others, are accepted
-  pub accepted-written : (r : Record) → read-said a ≡ fields r → (good r ≡ true) × (bs ≡ written r)
-  pub written-accepted : (r : Record) → good r ≡ true → bs ≡ written r → read-said a ≡ fields r
+  pub accepted-written : (r : Record) → reading-said a ≡ fields r → (good r ≡ true) × (bs ≡ written r)
+  pub written-accepted : (r : Record) → good r ≡ true → bs ≡ written r → reading-said a ≡ fields r
 
 -- these hold of every write and of every read of bytes
-abbrev pub Promised : Type 0
-Promised =
-    ((before : List ℕ) (r : Record) (a : Writing) (after : List ℕ) → Writes before r a after → WritePromised before r a after)
-    × ((bs : List ℕ) (a : Reading) → Bytes bs → Reads bs a → ReadPromised bs a)
+abbrev pub RecordPromised : Type 0
+RecordPromised =
+    ((before : List ℕ) (r : Record) (a : Writing) (after : List ℕ) → RecordWrites before r a after → WritePromised before r a after)
+    × ((bs : List ℕ) (a : Reading) → Bytes bs → RecordReads bs a → ReadPromised bs a)

@@ -5,25 +5,21 @@ use lib.Dec.{eqb}
 use Rattle.sizes.specs.Words.{one-if}
 use Rattle.sizes.specs.Partition.{sbn, esi}
 use Rattle.wire.specs.Packing.{Field}
-use Rattle.wire.specs.Record.{bits}
+use Rattle.wire.specs.Record.{in-bits}
 use Rattle.wire.specs.declared.record.Record.{Record}
 
 -- the fields of each word
 unfoldable pub first-fields : Record → List Field
-first-fields r = bits 1 (one-if (r .«is_fdt»)) ∷ bits 1 (one-if (r .close)) ∷ bits 20 (r .«fdt_id») ∷ bits 42 (r .toi / 2 ^ 22) ∷ []
+first-fields r = in-bits 1 (one-if (r .«is_fdt»)) ∷ in-bits 1 (one-if (r .close)) ∷ in-bits 20 (r .«fdt_id») ∷ in-bits 42 (r .toi / 2 ^ 22) ∷ []
 
 unfoldable pub second-fields : Record → List Field
-second-fields r = bits 22 (r .toi % 2 ^ 22) ∷ bits 16 (r .block .0) ∷ bits 16 (r .symbol .0) ∷ bits 10 (r .length / 2 ^ 6) ∷ []
+second-fields r = in-bits 22 (r .toi % 2 ^ 22) ∷ in-bits 16 (r .block .0) ∷ in-bits 16 (r .symbol .0) ∷ in-bits 10 (r .length / 2 ^ 6) ∷ []
 
 unfoldable pub third-fields : Record → List Field
-third-fields r = bits 6 (r .length % 2 ^ 6) ∷ bits 48 (r .total) ∷ bits 10 (r .symbols / 2 ^ 6) ∷ []
+third-fields r = in-bits 6 (r .length % 2 ^ 6) ∷ in-bits 48 (r .total) ∷ in-bits 10 (r .symbols / 2 ^ 6) ∷ []
 
 unfoldable pub last-fields : Record → List Field
-last-fields r = bits 6 (r .symbols % 2 ^ 6) ∷ bits 26 0 ∷ []
-
--- four words as one number
-unfoldable pub spread : ℕ → ℕ → ℕ → ℕ → ℕ
-spread a b c d = a * 2 ^ 160 + (b * 2 ^ 96 + (c * 2 ^ 32 + d))
+last-fields r = in-bits 6 (r .symbols % 2 ^ 6) ∷ in-bits 26 0 ∷ []
 
 -- the record that the words hold
 unfoldable pub record-in : ℕ → ℕ → ℕ → ℕ → Record

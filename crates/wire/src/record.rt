@@ -4,11 +4,20 @@ ghost use mathlib.Core.Bool.{true};
 ghost use mathlib.Core.List.{_++_};
 ghost use Prim.Native.Nat.{_+_, _*_, _^_, _<_, _≤_};
 ghost use lib.ListN.{length, take, drop};
-ghost use Rattle.wire.specs.Packing.{join, bytes-of, number-of};
-ghost use Rattle.wire.specs.Record.{good, well-named, Writes, Reads};
+ghost use Rattle.wire.specs.Packing.{join, last-bytes, number-spelled};
+ghost use Rattle.wire.specs.Record.{good, well-named, RecordWrites, RecordReads};
 ghost use Rattle.wire.specs.RecordWords.{first-fields, second-fields, third-fields, last-fields, record-in};
 use sizes::numbers::Esi;
 use sizes::numbers::Sbn;
+
+// The largest values of fields of 16, 20 and 48 bits.
+const MOST_16: u32 = 0xFFFF;
+
+const MOST_16_OF_64: u64 = 0xFFFF;
+
+const MOST_20: u32 = 0xF_FFFF;
+
+const MOST_48: u64 = 0xFFFF_FFFF_FFFF;
 
 // What a record says of a packet. A value may be too wide for its field.
 pub struct Record {
@@ -37,7 +46,7 @@ pub enum Reading {
 
 // Writes a record into the first 28 bytes of out, or nothing.
 pub fn write(out: &mut [u8], r: Record) -> Writing
-    ensures { λ a. ⌜ Writes (now (out .entry)) r a (now (out .exit)) ⌝ }
+    ensures { λ a. ⌜ RecordWrites (now (out .entry)) r a (now (out .exit)) ⌝ }
 {
     if out.len() < 28 {
         return Writing::Refused;
@@ -51,7 +60,7 @@ pub fn write(out: &mut [u8], r: Record) -> Writing
 
 // Reads the record that 28 bytes hold.
 pub fn read(bytes: &[u8]) -> Reading
-    ensures { λ a. ⌜ Reads (now (bytes .entry)) a ⌝ }
+    ensures { λ a. ⌜ RecordReads (now (bytes .entry)) a ⌝ }
 {
     if bytes.len() != 28 {
         return Reading::Refused;
@@ -63,7 +72,7 @@ pub fn read(bytes: &[u8]) -> Reading
     if d % 0x400_0000 != 0 {
         return Reading::Refused;
     }
-    let r = fields_of(a, b, c, d);
+    let r = record_in(a, b, c, d);
     if !is_good(r) {
         return Reading::Refused;
     }
@@ -74,22 +83,22 @@ pub fn read(bytes: &[u8]) -> Reading
 fn is_good(r: Record) -> bool
     ensures { λ t. ⌜ t ≡ good r ⌝ }
 {
-    if 0xFFFFF < r.fdt_id {
+    if MOST_20 < r.fdt_id {
         return false;
     }
-    if 0xFFFF < r.block.0 {
+    if MOST_16 < r.block.0 {
         return false;
     }
-    if 0xFFFF < r.symbol.0 {
+    if MOST_16 < r.symbol.0 {
         return false;
     }
-    if 0xFFFF < r.length {
+    if MOST_16_OF_64 < r.length {
         return false;
     }
-    if 0xFFFF_FFFF_FFFF < r.total {
+    if MOST_48 < r.total {
         return false;
     }
-    if 0xFFFF < r.symbols {
+    if MOST_16_OF_64 < r.symbols {
         return false;
     }
     is_well_named(r)
@@ -143,7 +152,7 @@ fn last(r: Record) -> u64
 }
 
 // The record that the words hold.
-fn fields_of(a: u64, b: u64, c: u64, d: u64) -> Record
+fn record_in(a: u64, b: u64, c: u64, d: u64) -> Record
     ensures { λ r. ⌜ r ≡ record-in a b c d ⌝ }
 {
     let fdt_id = (a / 0x400_0000_0000 % 0x10_0000) as u32;
@@ -168,7 +177,7 @@ fn fields_of(a: u64, b: u64, c: u64, d: u64) -> Record
 // Puts three words and the last half of one at the front of out.
 fn put_words(out: &mut [u8], a: u64, b: u64, c: u64, d: u64)
     requires { ⌜ 28 ≤ length (now out) ⌝ }
-    ensures { λ _. ⌜ now (out .exit) ≡ bytes-of 8 a ++ (bytes-of 8 b ++ (bytes-of 8 c ++ (bytes-of 4 d ++ drop 28 (now (out .entry))))) ⌝ }
+    ensures { λ _. ⌜ now (out .exit) ≡ last-bytes 8 a ++ (last-bytes 8 b ++ (last-bytes 8 c ++ (last-bytes 4 d ++ drop 28 (now (out .entry))))) ⌝ }
 {
     put(out, 0, 8, a);
     put(out, 8, 8, b);
@@ -179,7 +188,7 @@ fn put_words(out: &mut [u8], a: u64, b: u64, c: u64, d: u64)
 // Puts the last n bytes of w into out at `at`, the most significant first.
 fn put(out: &mut [u8], at: usize, n: usize, w: u64)
     requires { ⌜ at + n ≤ length (now out) ⌝ }
-    ensures { λ _. ⌜ now (out .exit) ≡ take at (now (out .entry)) ++ (bytes-of n w ++ drop (at + n) (now (out .entry))) ⌝ }
+    ensures { λ _. ⌜ now (out .exit) ≡ take at (now (out .entry)) ++ (last-bytes n w ++ drop (at + n) (now (out .entry))) ⌝ }
 {
     let mut rest = w;
     let mut i = n;
@@ -193,7 +202,7 @@ fn put(out: &mut [u8], at: usize, n: usize, w: u64)
 // The number that n bytes at `at` spell.
 fn word_at(bytes: &[u8], at: usize, n: usize) -> u64
     requires { ⌜ (at + n ≤ length (now bytes)) × (n ≤ 8) ⌝ }
-    ensures { λ w. ⌜ (w ≡ number-of (take n (drop at (now (bytes .entry))))) × (w < 2 ^ (8 * n)) ⌝ }
+    ensures { λ w. ⌜ (w ≡ number-spelled (take n (drop at (now (bytes .entry))))) × (w < 2 ^ (8 * n)) ⌝ }
 {
     let mut w: u64 = 0;
     let mut i = 0;

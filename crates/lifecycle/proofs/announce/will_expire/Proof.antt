@@ -7,23 +7,8 @@ use Rattle.lifecycle.proofs.announce.will_expire.Tie as tie
 returns : tie.Need-returns
 returns c = let s = c .before .before .args in runs-short (s .validity) (s .elapsed) (omega arith)
 
-sub-result : tie.Need-sub-result
-sub-result c = search needs
-
-sub-result-2 : tie.Need-sub-result-2
-sub-result-2 c = search needs
-
 returns-2 : tie.Need-returns-2
 returns-2 c = let s = c .before .before .args in runs-long (s .validity) (s .elapsed) (omega arith)
-
-sub-result-3 : tie.Need-sub-result-3
-sub-result-3 c = search needs
-
-sub-result-4 : tie.Need-sub-result-4
-sub-result-4 c = search needs
-
-sub-result-5 : tie.Need-sub-result-5
-sub-result-5 c = search needs
 
 returns-3 : tie.Need-returns-3
 returns-3 c = let s = c .before .before .args in runs-middle (s .validity) (s .elapsed) (omega arith) (omega arith)
@@ -42,17 +27,6 @@ returns-7 c = let s = c .before .before .before .args in runs-long (s .validity)
 
 pub will-expire-spec : {M : Type 1} → statement M
 will-expire-spec =
-    tie.close
-    (tie.spec
-    returns
-    sub-result
-    sub-result-2
-    returns-2
-    sub-result-3
-    sub-result-4
-    sub-result-5
-    returns-3
-    returns-4
-    returns-5
-    returns-6
-    returns-7)
+    tie.close (tie.spec
+    returns (λ c. search needs) (λ c. search needs) returns-2 (λ c. search needs) (λ c. search needs) (λ c. search needs) returns-3 returns-4
+    returns-5 returns-6 returns-7)

@@ -4,12 +4,6 @@ use borrow.Author.Needs.{needs}
 use Rattle.lifecycle.proofs.fdt.are_sound_sizes.Statement.{statement}
 use Rattle.lifecycle.proofs.fdt.are_sound_sizes.Tie as tie
 
-is-within-requires : tie.Need-is-within-requires
-is-within-requires c κs = search needs
-
-is-within-requires-2 : tie.Need-is-within-requires-2
-is-within-requires-2 c κs = search needs
-
 returns : tie.Need-returns
 unfolding sound-sizes
 returns c = both (c .before .before .is-within .ensures) (c .before .if1 .taken) (c .is-within2 .ensures)
@@ -19,5 +13,4 @@ unfolding sound-sizes
 returns-2 c = not-first _ (c .before .is-within .ensures) (c .if1 .left)
 
 pub are-sound-sizes-spec : {M : Type 1} → statement M
-are-sound-sizes-spec =
-    tie.close (tie.spec is-within-requires is-within-requires-2 returns returns-2)
+are-sound-sizes-spec = tie.close (tie.spec (λ c κs. search needs) (λ c κs. search needs) returns returns-2)

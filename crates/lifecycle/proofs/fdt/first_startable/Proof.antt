@@ -4,6 +4,7 @@ use native.Mathlib.Omega.{arith}
 use borrow.Author.Needs.{needs}
 use lib.ListN.{length, take}
 use Rattle.sizes.specs.Words.{place}
+use Rattle.sizes.specs.Limits.{object-slots}
 use Rattle.sizes.proofs.Arrays.{ahead, place-start, place-hit, place-miss, place-end, each-get}
 use Rattle.lifecycle.specs.Slots.{queue-startable}
 use Rattle.lifecycle.proofs.fdt.first_startable.Statement.{statement}
@@ -18,7 +19,7 @@ abbrev μ-loop : tie.MeasureT-loop
 loop-holds : tie.Need-loop-holds Inv-loop μ-loop
 loop-holds c =
     let a = c .args in
-    let g : length (a .t2) ≡ 32 = c .good .1 .0 .1 .0 .1 in
+    let g : length (a .t2) ≡ object-slots = c .good .1 .0 .1 .0 .1 in
     let long : a .queued ≤ length (a .t2) = omega arith in
     (long, search needs, place-start (queue-startable (a .t1) (a .priority) (a .now)) (a .queued) (a .t2) long)
 
@@ -31,13 +32,13 @@ array-read-k c = search needs
 mul-s : tie.Need-mul-s Inv-loop μ-loop
 mul-s c =
     let l = c .before in
-    let h = each-get (λ k. k < 32) (l .before .args .queued) (l .before .args .t2) (l .loop .inv .0) (l .loop .i) 0 (omega arith) (l .before .pre .1) in
+    let h = each-get (λ k. k < object-slots) (l .before .args .queued) (l .before .args .t2) (l .loop .inv .0) (l .loop .i) 0 (omega arith) (l .before .pre .1) in
     omega arith
 
 array-copy-out-s : tie.Need-array-copy-out-s Inv-loop μ-loop
 array-copy-out-s c =
     let l = c .before in
-    let h = each-get (λ k. k < 32) (l .before .args .queued) (l .before .args .t2) (l .loop .inv .0) (l .loop .i) 0 (omega arith) (l .before .pre .1) in
+    let h = each-get (λ k. k < object-slots) (l .before .args .queued) (l .before .args .t2) (l .loop .inv .0) (l .loop .i) 0 (omega arith) (l .before .pre .1) in
     omega arith
 
 should-transfer-now-requires : tie.Need-should-transfer-now-requires Inv-loop μ-loop
@@ -71,18 +72,5 @@ returns-2 c =
 
 pub first-startable-spec : {M : Type 1} → statement M
 first-startable-spec =
-    tie.close
-    (tie.spec
-    Inv-loop
-    μ-loop
-    loop-holds
-    mul-k
-    array-read-k
-    mul-s
-    array-copy-out-s
-    should-transfer-now-requires
-    returns
-    add-i
-    loop-less
-    loop-again
-    returns-2)
+    tie.close (tie.spec
+    Inv-loop μ-loop loop-holds mul-k array-read-k mul-s array-copy-out-s should-transfer-now-requires returns add-i loop-less loop-again returns-2)

@@ -3,9 +3,6 @@ use Rattle.lifecycle.specs.FdtCalls.{own-of}
 use Rattle.lifecycle.proofs.fdt.own_sizes.Statement.{statement}
 use Rattle.lifecycle.proofs.fdt.own_sizes.Tie as tie
 
-enum-known-own : tie.Need-enum-known-own
-enum-known-own c = search needs
-
 enum-told : tie.Need-enum-told
 enum-told c = search needs
 
@@ -18,4 +15,4 @@ unfolding own-of
 returns-2 c = rw (c .enum-told .given .1)
 
 pub own-sizes-spec : {M : Type 1} → statement M
-own-sizes-spec = tie.close (tie.spec enum-known-own enum-told returns returns-2)
+own-sizes-spec = tie.close (tie.spec (λ c. search needs) enum-told returns returns-2)

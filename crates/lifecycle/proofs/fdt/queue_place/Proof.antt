@@ -6,6 +6,7 @@ use borrow.Author.Needs.{needs}
 use lib.ListN.{length, take}
 use lib.Dec.{eqb}
 use Rattle.sizes.specs.Words.{place}
+use Rattle.sizes.specs.Limits.{object-slots}
 use Rattle.sizes.proofs.Arrays.{ahead, place-start, place-hit, place-miss, place-end}
 use Rattle.lifecycle.proofs.fdt.queue_place.Statement.{statement}
 use Rattle.lifecycle.proofs.fdt.queue_place.Tie as tie
@@ -18,7 +19,7 @@ abbrev μ-loop : tie.MeasureT-loop
 
 loop-holds : tie.Need-loop-holds Inv-loop μ-loop
 loop-holds c =
-    let g : length (c .args .t1) ≡ 32 = c .good .0 .1 .0 .1 in
+    let g : length (c .args .t1) ≡ object-slots = c .good .0 .1 .0 .1 in
     let long : c .args .queued ≤ length (c .args .t1) = omega arith in
     (long, search needs, place-start (λ k. eqb k (c .args .slot)) (c .args .queued) (c .args .t1) long)
 
@@ -53,16 +54,4 @@ returns-2 c =
     sym (place-end (λ k. eqb k (a .slot)) (a .queued) (a .t1) (l .loop .inv .0) (l .loop .i) (omega arith)) ∙ l .loop .inv .2
 
 pub queue-place-spec : {M : Type 1} → statement M
-queue-place-spec =
-    tie.close
-    (tie.spec
-    Inv-loop
-    μ-loop
-    loop-holds
-    mul-if1
-    array-read-if1
-    returns
-    add-i
-    loop-less
-    loop-again
-    returns-2)
+queue-place-spec = tie.close (tie.spec Inv-loop μ-loop loop-holds mul-if1 array-read-if1 returns add-i loop-less loop-again returns-2)

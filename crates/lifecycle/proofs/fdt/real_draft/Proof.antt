@@ -4,9 +4,6 @@ use Rattle.lifecycle.specs.FdtCalls.{real-draft}
 use Rattle.lifecycle.proofs.fdt.real_draft.Statement.{statement}
 use Rattle.lifecycle.proofs.fdt.real_draft.Tie as tie
 
-enum-known-draft : tie.Need-enum-known-draft
-enum-known-draft c = search needs
-
 enum-told : tie.Need-enum-told
 enum-told c = search needs
 
@@ -23,4 +20,4 @@ unfolding real-draft
 returns-3 c = rw (c .before .before .before .draft .given .1, ne-eqb _ _ (c .if1 .left))
 
 pub real-draft-spec : {M : Type 1} → statement M
-real-draft-spec = tie.close (tie.spec enum-known-draft enum-told returns returns-2 returns-3)
+real-draft-spec = tie.close (tie.spec (λ c. search needs) enum-told returns returns-2 returns-3)

@@ -12,11 +12,8 @@ returns-2 c = empty-second (c .before .before .before .before .args .a) (c .befo
 returns-3 : tie.Need-returns-3
 returns-3 c = first-reaches (c .before .before .before .before .before .before .before .before .before .before .args .a) (c .before .before .before .before .before .before .before .before .before .before .args .b) (c .before .before .before .before .before .before .if2 .left) (c .before .before .before .if3 .taken)
 
-sub-result : tie.Need-sub-result
-sub-result c = search needs
-
 returns-4 : tie.Need-returns-4
 returns-4 c = second-reaches (c .before .before .before .before .before .before .before .before .before .before .args .a) (c .before .before .before .before .before .before .before .before .before .before .args .b) (c .before .before .before .before .before .before .before .before .if1 .left) (c .before .before .before .if3 .left)
 
 pub shares-spec : {M : Type 1} → statement M
-shares-spec = tie.close (tie.spec returns returns-2 returns-3 sub-result returns-4)
+shares-spec = tie.close (tie.spec returns returns-2 returns-3 (λ c. search needs) returns-4)

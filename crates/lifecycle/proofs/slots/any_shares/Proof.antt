@@ -5,21 +5,22 @@ use borrow.Author.Needs.{needs}
 use lib.ListN.{length, take, drop}
 use lib.Seq.{take-all}
 use Rattle.sizes.specs.Words.{any}
+use Rattle.sizes.specs.Limits.{object-slots}
 use Rattle.sizes.proofs.Arrays.{any-hit, any-miss, any-end}
 use Rattle.lifecycle.specs.Slots.{no-slot, holds-byte}
 use Rattle.lifecycle.proofs.slots.any_shares.Statement.{statement}
 use Rattle.lifecycle.proofs.slots.any_shares.Tie as tie
 
 abbrev Inv-loop : tie.InvT-loop
-Inv-loop c slots i₀ i = (32 ≤ length slots) × (i ≤ 32) × (any (holds-byte c) slots ≡ any (holds-byte c) (drop i (take 32 slots)))
+Inv-loop c slots i₀ i = (object-slots ≤ length slots) × (i ≤ object-slots) × (any (holds-byte c) slots ≡ any (holds-byte c) (drop i (take object-slots slots)))
 
 abbrev μ-loop : tie.MeasureT-loop
-μ-loop c slots i₀ i = 32 - i
+μ-loop c slots i₀ i = object-slots - i
 
 loop-holds : tie.Need-loop-holds Inv-loop μ-loop
 loop-holds c =
-    let g : length (c .args .t1) ≡ 32 = c .good .0 .1 .0 .1 in
-    (omega arith, search needs, ap (any (holds-byte (c .args .c))) (sym (take-all 32 (c .args .t1) (omega arith))))
+    let g : length (c .args .t1) ≡ object-slots = c .good .0 .1 .0 .1 in
+    (omega arith, search needs, ap (any (holds-byte (c .args .c))) (sym (take-all object-slots (c .args .t1) (omega arith))))
 
 mul-has-byte-of : tie.Need-mul-has-byte-of Inv-loop μ-loop
 mul-has-byte-of c = search needs
@@ -33,7 +34,7 @@ has-byte-of-requires c κs = search needs
 returns : tie.Need-returns Inv-loop μ-loop
 returns c =
     let l = c .before .before .before .before in
-    sym (l .loop .inv .2 ∙ any-hit (holds-byte (l .before .args .c)) 32 (l .before .args .t1) (l .loop .inv .0) (l .loop .i) no-slot (omega arith) (sym (c .before .has-byte-of .ensures) ∙ c .if1 .taken))
+    sym (l .loop .inv .2 ∙ any-hit (holds-byte (l .before .args .c)) object-slots (l .before .args .t1) (l .loop .inv .0) (l .loop .i) no-slot (omega arith) (sym (c .before .has-byte-of .ensures) ∙ c .if1 .taken))
 
 add-i : tie.Need-add-i Inv-loop μ-loop
 add-i c = search needs
@@ -44,25 +45,14 @@ loop-less c = search needs
 loop-again : tie.Need-loop-again Inv-loop μ-loop
 loop-again c =
     let l = c .before .before .before .before in
-    (l .loop .inv .0, search needs, l .loop .inv .2 ∙ any-miss (holds-byte (l .before .args .c)) 32 (l .before .args .t1) (l .loop .inv .0) (l .loop .i) no-slot (omega arith) (sym (c .before .has-byte-of .ensures) ∙ c .if1 .left))
+    (l .loop .inv .0, search needs, l .loop .inv .2 ∙ any-miss (holds-byte (l .before .args .c)) object-slots (l .before .args .t1) (l .loop .inv .0) (l .loop .i) no-slot (omega arith) (sym (c .before .has-byte-of .ensures) ∙ c .if1 .left))
 
 returns-2 : tie.Need-returns-2 Inv-loop μ-loop
 returns-2 c =
     let l = c .before in
-    sym (l .loop .inv .2 ∙ any-end (holds-byte (l .before .args .c)) 32 (l .before .args .t1) (l .loop .inv .0) (l .loop .i) (omega arith))
+    sym (l .loop .inv .2 ∙ any-end (holds-byte (l .before .args .c)) object-slots (l .before .args .t1) (l .loop .inv .0) (l .loop .i) (omega arith))
 
 pub any-shares-spec : {M : Type 1} → statement M
 any-shares-spec =
-    tie.close
-    (tie.spec
-    Inv-loop
-    μ-loop
-    loop-holds
-    mul-has-byte-of
-    array-copy-out-has-byte-of
-    has-byte-of-requires
-    returns
-    add-i
-    loop-less
-    loop-again
-    returns-2)
+    tie.close (tie.spec
+    Inv-loop μ-loop loop-holds mul-has-byte-of array-copy-out-has-byte-of has-byte-of-requires returns add-i loop-less loop-again returns-2)

@@ -8,12 +8,9 @@ returns : tie.Need-returns
 unfolding holds-byte is-free
 returns c = rw (eq-eqb _ _ (c .if1 .taken))
 
-shares-requires : tie.Need-shares-requires
-shares-requires c κs = search needs
-
 returns-2 : tie.Need-returns-2
 unfolding holds-byte is-free
 returns-2 c = rw (ne-eqb _ _ (c .before .if1 .left)) (c .shares .ensures)
 
 pub has-byte-of-spec : {M : Type 1} → statement M
-has-byte-of-spec = tie.close (tie.spec returns shares-requires returns-2)
+has-byte-of-spec = tie.close (tie.spec returns (λ c κs. search needs) returns-2)

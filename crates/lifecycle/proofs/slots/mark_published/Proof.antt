@@ -5,14 +5,15 @@ use borrow.Author.Needs.{needs}
 use lib.ListN.{length}
 use Rattle.sizes.proofs.Arrays.{mapped, mapped-more, mapped-all}
 use Rattle.lifecycle.specs.Slots.{no-slot, published-slot}
+use Rattle.sizes.specs.Limits.{object-slots}
 use Rattle.lifecycle.proofs.slots.mark_published.Statement.{statement}
 use Rattle.lifecycle.proofs.slots.mark_published.Tie as tie
 
 abbrev Inv-loop : tie.InvT-loop
-Inv-loop out₀ k₀ out k = (k ≤ 32) × (length out₀ ≡ 32) × (out ≡ mapped published-slot out₀ k)
+Inv-loop out₀ k₀ out k = (k ≤ object-slots) × (length out₀ ≡ object-slots) × (out ≡ mapped published-slot out₀ k)
 
 abbrev μ-loop : tie.MeasureT-loop
-μ-loop out₀ k₀ out k = 32 - k
+μ-loop out₀ k₀ out k = object-slots - k
 
 loop-holds : tie.Need-loop-holds Inv-loop μ-loop
 loop-holds c = (search needs, c .good .0 .1 .0 .1, refl)
@@ -50,17 +51,6 @@ returns c =
 
 pub mark-published-spec : {M : Type 1} → statement M
 mark-published-spec =
-    tie.close
-    (tie.spec
-    Inv-loop
-    μ-loop
-    loop-holds
-    mul-published
-    array-copy-out-published
-    published-requires
-    mul-out
-    array-set-from-out
-    add-k
-    loop-less
-    loop-again
+    tie.close (tie.spec
+    Inv-loop μ-loop loop-holds mul-published array-copy-out-published published-requires mul-out array-set-from-out add-k loop-less loop-again
     returns)

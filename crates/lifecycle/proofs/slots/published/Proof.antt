@@ -8,12 +8,9 @@ returns : tie.Need-returns
 unfolding published-slot
 returns c = rw (not-true (c .before .before .args .s .listed) (c .if1 .taken))
 
-set-published-requires : tie.Need-set-published-requires
-set-published-requires c κs = search needs
-
 returns-2 : tie.Need-returns-2
 unfolding published-slot
 returns-2 c = rw (c .set-published .ensures, not-false (c .before .before .before .args .s .listed) (c .before .if1 .left))
 
 pub published-spec : {M : Type 1} → statement M
-published-spec = tie.close (tie.spec returns set-published-requires returns-2)
+published-spec = tie.close (tie.spec returns (λ c κs. search needs) returns-2)

@@ -1,19 +1,14 @@
-use Rattle.sizes.specs.Partition.{symbols-in}
-use borrow.Author.Tests.{lt-ltb, le-ltb}
+use mathlib.Core.Path.{sym}
 use borrow.Author.Needs.{needs}
+use Rattle.sizes.proofs.Lengths.{in-large, in-small}
 use Rattle.sender.proofs.block.nb_source_symbols.Statement.{statement}
 use Rattle.sender.proofs.block.nb_source_symbols.Tie as tie
 
-cast-if1 : tie.Need-cast-if1
-cast-if1 c = search needs
-
 returns : tie.Need-returns
-unfolding symbols-in
-returns c = rw (lt-ltb _ _ (c .if1 .taken))
+returns c = sym (in-large _ _ (c .if1 .taken))
 
 returns-2 : tie.Need-returns-2
-unfolding symbols-in
-returns-2 c = rw (le-ltb _ _ (c .if1 .left))
+returns-2 c = sym (in-small _ _ (c .if1 .left))
 
 pub nb-source-symbols-spec : {M : Type 1} → statement M
-nb-source-symbols-spec = tie.close (tie.spec cast-if1 returns returns-2)
+nb-source-symbols-spec = tie.close (tie.spec (λ c. search needs) returns returns-2)

@@ -1,6 +1,7 @@
 use borrow.Author.Tests.{not-true, not-false}
 use lib.ListN.{length, take, drop}
 use Rattle.sizes.specs.Words.{all}
+use Rattle.sizes.specs.Limits.{largest-window}
 use Rattle.sizes.proofs.Arrays.{all-hit, all-miss, all-end}
 use Rattle.sender.specs.EncoderCalls.{no-open, is-empty}
 use mathlib.Core.Path.{_≡_, refl, sym, _∙_}
@@ -11,14 +12,14 @@ use Rattle.sender.proofs.blockencoder.all_empty.Statement.{statement}
 use Rattle.sender.proofs.blockencoder.all_empty.Tie as tie
 
 abbrev Inv-loop : tie.InvT-loop
-Inv-loop p n window i₀ i = (long : n ≤ length window) × (i ≤ n) × (n ≤ 16) × (all (is-empty p) (drop i (take n window)) ≡ all (is-empty p) (take n window))
+Inv-loop p n window i₀ i = (long : n ≤ length window) × (i ≤ n) × (n ≤ largest-window) × (all (is-empty p) (drop i (take n window)) ≡ all (is-empty p) (take n window))
 
 abbrev μ-loop : tie.MeasureT-loop
 μ-loop p n window i₀ i = n - i
 
 loop-holds : tie.Need-loop-holds Inv-loop μ-loop
 loop-holds c =
-    let g : length (c .args .t2) ≡ 16 = c .good .1 .0 .1 .0 .1 in
+    let g : length (c .args .t2) ≡ largest-window = c .good .1 .0 .1 .0 .1 in
     (omega arith, search needs, search needs, refl)
 
 mul-o : tie.Need-mul-o Inv-loop μ-loop
@@ -52,17 +53,4 @@ returns-2 c =
     sym (all-end (is-empty (c .before .before .args .p)) (c .before .before .args .n) (c .before .before .args .t2) (l .inv .0) (l .i) (omega arith)) ∙ l .inv .3
 
 pub all-empty-spec : {M : Type 1} → statement M
-all-empty-spec =
-    tie.close
-    (tie.spec
-    Inv-loop
-    μ-loop
-    loop-holds
-    mul-o
-    array-copy-out-o
-    is-empty-requires
-    returns
-    add-i
-    loop-less
-    loop-again
-    returns-2)
+all-empty-spec = tie.close (tie.spec Inv-loop μ-loop loop-holds mul-o array-copy-out-o is-empty-requires returns add-i loop-less loop-again returns-2)

@@ -3,12 +3,9 @@ use borrow.Author.Needs.{needs}
 use Rattle.sender.proofs.sender.request.Statement.{statement}
 use Rattle.sender.proofs.sender.request.Tie as tie
 
-new-requires : tie.Need-new-requires
-new-requires c κs = search needs
-
 returns : tie.Need-returns
 unfolding request-of
 returns c = rw (c .new .ensures)
 
 pub request-spec : {M : Type 1} → statement M
-request-spec = tie.close (tie.spec new-requires returns)
+request-spec = tie.close (tie.spec (λ c κs. search needs) returns)

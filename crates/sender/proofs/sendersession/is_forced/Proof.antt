@@ -4,22 +4,13 @@ use Rattle.sender.specs.SessionCalls.{forced-slot}
 use Rattle.sender.proofs.sendersession.is_forced.Statement.{statement}
 use Rattle.sender.proofs.sendersession.is_forced.Tie as tie
 
-mul-v : tie.Need-mul-v
-mul-v c = search needs
-
-array-copy-out-v : tie.Need-array-copy-out-v
-array-copy-out-v c = search needs
-
 returns : tie.Need-returns
 unfolding forced-slot
 returns c = rw (c .if1 .taken, and-false)
-
-can-transfer-be-stopped-requires : tie.Need-can-transfer-be-stopped-requires
-can-transfer-be-stopped-requires c κs = search needs
 
 returns-2 : tie.Need-returns-2
 unfolding forced-slot
 returns-2 c = rw (c .before .before .if1 .left, and-true) (c .can-transfer-be-stopped .ensures)
 
 pub is-forced-spec : {M : Type 1} → statement M
-is-forced-spec = tie.close (tie.spec mul-v array-copy-out-v returns can-transfer-be-stopped-requires returns-2)
+is-forced-spec = tie.close (tie.spec returns (λ c κs. search needs) returns-2)

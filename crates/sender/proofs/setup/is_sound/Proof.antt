@@ -1,5 +1,6 @@
 use Rattle.sender.specs.SetupCalls.{setup-said}
-use Rattle.sender.proofs.SetupCallsLaws.{Passed, passed, refused-by, by-id, few-named, small-named, width-bad, width-has}
+use Rattle.lifecycle.proofs.SetupLaws.{Passed, passed, refused-by, by-id}
+use Rattle.sender.proofs.SetupCallsLaws.{few-named, small-named, width-bad, width-has}
 use borrow.Author.Tests.{not-true, not-false}
 use mathlib.Core.Path.{sym, _∙_}
 use borrow.Author.Tests.{le-leb, lt-leb}
@@ -7,24 +8,15 @@ use borrow.Author.Needs.{needs}
 use Rattle.sender.proofs.setup.is_sound.Statement.{statement}
 use Rattle.sender.proofs.setup.is_sound.Tie as tie
 
-is-within-requires : tie.Need-is-within-requires
-is-within-requires c κs = search needs
-
 returns : tie.Need-returns
 returns c =
     let z = c .before .before .args .z in
     sym (refused-by (setup-said z) (λ k. passed (setup-said z) k .sessions) (few-named z (search needs) (sym (c .before .is-within .ensures) ∙ not-true _ (c .if1 .taken))))
 
-is-within-requires-2 : tie.Need-is-within-requires-2
-is-within-requires-2 c κs = search needs
-
 returns-2 : tie.Need-returns-2
 returns-2 c =
     let s = setup-said (c .before .before .before .before .args .z) in
     sym (refused-by s (λ k. passed s k .window) (sym (c .before .is-within2 .ensures) ∙ not-true _ (c .if2 .taken)))
-
-are-sound-sizes-requires : tie.Need-are-sound-sizes-requires
-are-sound-sizes-requires c κs = search needs
 
 returns-3 : tie.Need-returns-3
 returns-3 c =
@@ -41,9 +33,6 @@ returns-5 c =
     let s = setup-said (c .before .before .before .before .before .before .before .before .before .before .before .args .z) in
     sym (refused-by s (λ k. passed s k .fdt-store) (lt-leb _ _ (c .if5 .taken)))
 
-width-of-requires : tie.Need-width-of-requires
-width-of-requires c κs = search needs
-
 enum-told : tie.Need-enum-told
 enum-told c = search needs
 
@@ -51,9 +40,6 @@ returns-6 : tie.Need-returns-6
 returns-6 c =
     let s = setup-said (c .before .before .before .before .before .before .before .before .before .before .before .before .before .before .args .z) in
     sym (refused-by s (λ k. passed s k .width) (width-bad _ (sym (c .before .before .width-of .ensures) ∙ c .enum-told .given .1)))
-
-enum-told-2 : tie.Need-enum-told-2
-enum-told-2 c = search needs
 
 returns-7 : tie.Need-returns-7
 returns-7 c =
@@ -71,18 +57,6 @@ returns-7 c =
 
 pub is-sound-spec : {M : Type 1} → statement M
 is-sound-spec =
-    tie.close
-    (tie.spec
-    is-within-requires
-    returns
-    is-within-requires-2
-    returns-2
-    are-sound-sizes-requires
-    returns-3
-    returns-4
-    returns-5
-    width-of-requires
-    enum-told
-    returns-6
-    enum-told-2
-    returns-7)
+    tie.close (tie.spec
+    (λ c κs. search needs) returns (λ c κs. search needs) returns-2 (λ c κs. search needs) returns-3 returns-4 returns-5 (λ c κs. search needs)
+    enum-told returns-6 (λ c. search needs) returns-7)

@@ -4,12 +4,6 @@ use borrow.Author.Needs.{needs}
 use Rattle.sender.proofs.setup.priority_of.Statement.{statement}
 use Rattle.sender.proofs.setup.priority_of.Tie as tie
 
-mul-result : tie.Need-mul-result
-mul-result c = search needs
-
-array-read-result : tie.Need-array-read-result
-array-read-result c = search needs
-
 returns : tie.Need-returns
 unfolding priority-at
 returns c = rw (lt-ltb _ _ (c .if1 .taken))
@@ -19,4 +13,4 @@ unfolding priority-at
 returns-2 c = rw (le-ltb _ _ (c .if1 .left))
 
 pub priority-of-spec : {M : Type 1} → statement M
-priority-of-spec = tie.close (tie.spec mul-result array-read-result returns returns-2)
+priority-of-spec = tie.close (tie.spec (λ c. search needs) (λ c. search needs) returns returns-2)

@@ -1,5 +1,5 @@
 use mathlib.Core.Bool.{false}
-use Rattle.sender.specs.SetupCalls.{opening-of}
+use Rattle.sender.specs.SetupCalls.{opening-sender}
 use Rattle.sender.specs.declared.sender.Sender.{Sender}
 use Rattle.sender.specs.declared.setup.Opened.{Opened}
 use Rattle.sender.specs.declared.setup.Setup.{Setup}
@@ -9,9 +9,6 @@ use borrow.Author.Needs.{needs}
 use Rattle.sender.proofs.setup.refused.Statement.{statement}
 use Rattle.sender.proofs.setup.refused.Tie as tie
 
-plain-setup-requires : tie.Need-plain-setup-requires
-plain-setup-requires c κs = search needs
-
 open-requires : tie.Need-open-requires
 open-requires c κs =
     let e = c .plain-setup .ensures in
@@ -20,7 +17,7 @@ open-requires c κs =
 returns : tie.Need-returns
 returns c =
     let f : Sender → Opened = λ x. record { ok = false; sender = x } in
-    ap f (c .«open» .ensures ∙ ap opening-of (c .before .plain-setup .ensures))
+    ap f (c .«open» .ensures ∙ ap opening-sender (c .before .plain-setup .ensures))
 
 pub refused-spec : {M : Type 1} → statement M
-refused-spec = tie.close (tie.spec plain-setup-requires open-requires returns)
+refused-spec = tie.close (tie.spec (λ c κs. search needs) open-requires returns)

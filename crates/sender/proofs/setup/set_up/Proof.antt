@@ -2,24 +2,16 @@ use mathlib.Core.Bool.{true}
 use Rattle.sender.specs.SetupCalls.{setup-said, Opens}
 use Rattle.sender.specs.declared.sender.Sender.{Sender}
 use Rattle.sender.specs.declared.setup.Opened.{Opened}
-use Rattle.sender.proofs.SetupCallsLaws.{passed, refused-by, width-bad, width-is, opens, opens-not}
+use Rattle.lifecycle.proofs.SetupLaws.{passed, refused-by}
+use Rattle.sender.proofs.SetupCallsLaws.{width-bad, width-is, opens, opens-not}
 use Rattle.lifecycle.proofs.SetupLaws.{told}
 use mathlib.Core.Path.{sym, _∙_, subst}
 use borrow.Author.Needs.{needs}
 use Rattle.sender.proofs.setup.set_up.Statement.{statement}
 use Rattle.sender.proofs.setup.set_up.Tie as tie
 
-width-of-requires : tie.Need-width-of-requires
-width-of-requires c κs = search needs
-
-enum-known-w : tie.Need-enum-known-w
-enum-known-w c = search needs
-
 enum-told : tie.Need-enum-told
 enum-told c = search needs
-
-refused-requires : tie.Need-refused-requires
-refused-requires c κs = search needs
 
 returns : tie.Need-returns
 returns c =
@@ -27,17 +19,11 @@ returns c =
     let s = setup-said z in
     subst (Opens z) (sym (c .refused .ensures)) (opens-not z (refused-by s (λ k. passed s k .width) (width-bad (z .width) (sym (c .before .before .before .width-of .ensures) ∙ c .before .enum-told .given .1))))
 
-is-sound-requires : tie.Need-is-sound-requires
-is-sound-requires c κs = search needs
-
 open-requires : tie.Need-open-requires
 open-requires c κs =
     let z = c .before .before .before .before .before .before .args .z in
     let k = sym (c .before .is-sound .ensures) ∙ c .if1 .taken in
     (width-is (z .width) _ (sym (c .before .before .before .before .before .width-of .ensures) ∙ c .before .before .before .w .given .1), told (setup-said z) k .first-id)
-
-refused-requires-2 : tie.Need-refused-requires-2
-refused-requires-2 c κs = search needs
 
 returns-2 : tie.Need-returns-2
 returns-2 c =
@@ -53,15 +39,6 @@ returns-3 c =
 
 pub set-up-spec : {M : Type 1} → statement M
 set-up-spec =
-    tie.close
-    (tie.spec
-    width-of-requires
-    enum-known-w
-    enum-told
-    refused-requires
-    returns
-    is-sound-requires
-    open-requires
-    refused-requires-2
-    returns-2
-    returns-3)
+    tie.close (tie.spec
+    (λ c κs. search needs) (λ c. search needs) enum-told (λ c κs. search needs) returns (λ c κs. search needs) open-requires
+    (λ c κs. search needs) returns-2 returns-3)

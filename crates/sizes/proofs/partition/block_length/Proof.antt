@@ -19,52 +19,22 @@ sized c = c .before .before .before .before
 small : (c : tie.After-small-size) → checked (sized c .before .before .before .args .small * sized c .before .before .before .args .e) ≡ Fits (c .small-size .given .0 .0)
 small c = sym (c .before .before .checked-mul2 .ensures) ∙ c .small-size .given .1
 
-checked-mul-requires : tie.Need-checked-mul-requires
-checked-mul-requires c κs = search needs
-
-enum-known-large-size : tie.Need-enum-known-large-size
-enum-known-large-size c = search needs
-
 enum-told : tie.Need-enum-told
 enum-told c = search needs
 
 returns : tie.Need-returns
 returns c = sym (large-told _ _ _ _ (sym (c .before .before .checked-mul .ensures) ∙ c .enum-told .given .1))
 
-checked-mul-requires-2 : tie.Need-checked-mul-requires-2
-checked-mul-requires-2 c κs = search needs
-
-enum-known-small-size : tie.Need-enum-known-small-size
-enum-known-small-size c = search needs
-
-enum-told-2 : tie.Need-enum-told-2
-enum-told-2 c = search needs
-
 returns-2 : tie.Need-returns-2
 returns-2 c =
     let z = c .before .before .before .before in
     sym (small-told _ _ _ _ _ (large z) (sym (c .before .before .checked-mul2 .ensures) ∙ c .enum-told2 .given .1))
-
-cast-k : tie.Need-cast-k
-cast-k c = search needs
-
-checked-mul-requires-3 : tie.Need-checked-mul-requires-3
-checked-mul-requires-3 c κs = search needs
-
-enum-known-offset : tie.Need-enum-known-offset
-enum-known-offset c = search needs
-
-enum-told-3 : tie.Need-enum-told-3
-enum-told-3 c = search needs
 
 returns-3 : tie.Need-returns-3
 returns-3 c =
     let t = c .before .before .before in
     let z = t .before .before .before in
     sym (first-past _ _ _ _ _ (large (sized z)) _ (small z) (t .if1 .taken) (sym (c .before .before .checked-mul3 .ensures) ∙ c .enum-told3 .given .1))
-
-reached-requires : tie.Need-reached-requires
-reached-requires c κs = search needs
 
 returns-4 : tie.Need-returns-4
 returns-4 c =
@@ -73,44 +43,17 @@ returns-4 c =
     let z = t .before .before .before in
     c .reached .ensures ∙ sym (first-fits _ _ _ _ _ (large (sized z)) _ (small z) (t .if1 .taken) _ (sym (o .before .before .checked-mul3 .ensures) ∙ o .offset .given .1))
 
-checked-mul-requires-4 : tie.Need-checked-mul-requires-4
-checked-mul-requires-4 c κs = search needs
-
-enum-known-small-offset : tie.Need-enum-known-small-offset
-enum-known-small-offset c = search needs
-
-enum-told-4 : tie.Need-enum-told-4
-enum-told-4 c = search needs
-
 returns-5 : tie.Need-returns-5
 returns-5 c =
     let t = c .before .before .before in
     let z = t .before .before .before in
     sym (small-offset-past _ _ _ _ _ (large (sized z)) _ (small z) (t .if1 .left) (sym (c .before .before .checked-mul4 .ensures) ∙ c .enum-told4 .given .1))
 
-checked-mul-requires-5 : tie.Need-checked-mul-requires-5
-checked-mul-requires-5 c κs = search needs
-
-enum-known-large-offset : tie.Need-enum-known-large-offset
-enum-known-large-offset c = search needs
-
-enum-told-5 : tie.Need-enum-told-5
-enum-told-5 c = search needs
-
 returns-6 : tie.Need-returns-6
 returns-6 c =
     let t = c .before .before .before .before .before .before .before in
     let z = t .before .before .before in
     sym (large-offset-past _ _ _ _ _ (large (sized z)) _ (small z) (t .if1 .left) (sym (c .before .before .checked-mul5 .ensures) ∙ c .enum-told5 .given .1))
-
-checked-add-requires : tie.Need-checked-add-requires
-checked-add-requires c κs = search needs
-
-enum-known-offset-2 : tie.Need-enum-known-offset-2
-enum-known-offset-2 c = search needs
-
-enum-told-6 : tie.Need-enum-told-6
-enum-told-6 c = search needs
 
 returns-7 : tie.Need-returns-7
 returns-7 c =
@@ -121,9 +64,6 @@ returns-7 c =
     let after = sym (s .before .before .checked-mul4 .ensures) ∙ s .small-offset .given .1 in
     let before = sym (w .before .before .checked-mul5 .ensures) ∙ w .large-offset .given .1 in
     sym (offset-past _ _ _ _ _ (large (sized z)) _ (small z) (t .if1 .left) _ _ after before (sym (c .before .before .checked-add .ensures) ∙ c .enum-told6 .given .1))
-
-reached-requires-2 : tie.Need-reached-requires-2
-reached-requires-2 c κs = search needs
 
 returns-8 : tie.Need-returns-8
 returns-8 c =
@@ -138,34 +78,8 @@ returns-8 c =
 
 pub block-length-spec : {M : Type 1} → statement M
 block-length-spec =
-    tie.close
-    (tie.spec
-    checked-mul-requires
-    enum-known-large-size
-    enum-told
-    returns
-    checked-mul-requires-2
-    enum-known-small-size
-    enum-told-2
-    returns-2
-    cast-k
-    checked-mul-requires-3
-    enum-known-offset
-    enum-told-3
-    returns-3
-    reached-requires
-    returns-4
-    checked-mul-requires-4
-    enum-known-small-offset
-    enum-told-4
-    returns-5
-    checked-mul-requires-5
-    enum-known-large-offset
-    enum-told-5
-    returns-6
-    checked-add-requires
-    enum-known-offset-2
-    enum-told-6
-    returns-7
-    reached-requires-2
-    returns-8)
+    tie.close (tie.spec
+    (λ c κs. search needs) (λ c. search needs) enum-told returns (λ c κs. search needs) (λ c. search needs) (λ c. search needs) returns-2
+    (λ c. search needs) (λ c κs. search needs) (λ c. search needs) (λ c. search needs) returns-3 (λ c κs. search needs) returns-4
+    (λ c κs. search needs) (λ c. search needs) (λ c. search needs) returns-5 (λ c κs. search needs) (λ c. search needs) (λ c. search needs)
+    returns-6 (λ c κs. search needs) (λ c. search needs) (λ c. search needs) returns-7 (λ c κs. search needs) returns-8)

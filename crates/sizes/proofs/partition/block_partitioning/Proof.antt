@@ -13,37 +13,19 @@ use Rattle.sizes.proofs.partition.block_partitioning.Tie as tie
 some-blocks : (c : tie.After-div-ceil2) → 0 < c .div-ceil2 .result
 some-blocks c = rw (c .div-ceil2 .ensures) (ceil-some _ _ (search needs) (search needs))
 
-no-blocks-requires : tie.Need-no-blocks-requires
-no-blocks-requires c κs = search needs
-
 returns : tie.Need-returns
 unfolding partition-of
 returns c = rw (c .no-blocks .ensures, c .before .if1 .taken)
 
-no-blocks-requires-2 : tie.Need-no-blocks-requires-2
-no-blocks-requires-2 c κs = search needs
-
 returns-2 : tie.Need-returns-2
 unfolding partition-of
 returns-2 c = rw (c .no-blocks2 .ensures, ne-eqb _ _ (c .before .before .if1 .left), c .before .if2 .taken)
-
-div-ceil-requires : tie.Need-div-ceil-requires
-div-ceil-requires c κs = search needs
-
-no-blocks-requires-3 : tie.Need-no-blocks-requires-3
-no-blocks-requires-3 c κs = search needs
 
 returns-3 : tie.Need-returns-3
 unfolding partition-of symbols-of
 returns-3 c =
     let z = c .before .before .before in
     rw (c .no-blocks3 .ensures, ne-eqb _ _ (z .before .if1 .left), ne-eqb _ _ (z .if2 .left), ← c .before .before .div-ceil .ensures, c .before .if3 .taken)
-
-div-ceil-requires-2 : tie.Need-div-ceil-requires-2
-div-ceil-requires-2 c κs = search needs
-
-div-ceil-requires-3 : tie.Need-div-ceil-requires-3
-div-ceil-requires-3 c κs = search needs
 
 div-small : tie.Need-div-small
 div-small c = some-blocks (c .before)
@@ -70,18 +52,6 @@ returns-4 c =
 
 pub block-partitioning-spec : {M : Type 1} → statement M
 block-partitioning-spec =
-    tie.close
-    (tie.spec
-    no-blocks-requires
-    returns
-    no-blocks-requires-2
-    returns-2
-    div-ceil-requires
-    no-blocks-requires-3
-    returns-3
-    div-ceil-requires-2
-    div-ceil-requires-3
-    div-small
-    mul-t9
-    sub-t10
-    returns-4)
+    tie.close (tie.spec
+    (λ c κs. search needs) returns (λ c κs. search needs) returns-2 (λ c κs. search needs) (λ c κs. search needs) returns-3 (λ c κs. search needs)
+    (λ c κs. search needs) div-small mul-t9 sub-t10 returns-4)

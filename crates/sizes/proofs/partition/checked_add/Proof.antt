@@ -6,12 +6,6 @@ use Rattle.sizes.proofs.Lengths.{checked-fits, checked-past}
 use Rattle.sizes.proofs.partition.checked_add.Statement.{statement}
 use Rattle.sizes.proofs.partition.checked_add.Tie as tie
 
-sub-if1 : tie.Need-sub-if1
-sub-if1 c = search needs
-
-add-t5 : tie.Need-add-t5
-add-t5 c = search needs
-
 returns : tie.Need-returns
 returns c = sym (checked-fits _ (omega arith))
 
@@ -19,4 +13,4 @@ returns-2 : tie.Need-returns-2
 returns-2 c = sym (checked-past _ (omega arith))
 
 pub checked-add-spec : {M : Type 1} → statement M
-checked-add-spec = tie.close (tie.spec sub-if1 add-t5 returns returns-2)
+checked-add-spec = tie.close (tie.spec (λ c. search needs) (λ c. search needs) returns returns-2)

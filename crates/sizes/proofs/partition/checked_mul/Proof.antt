@@ -11,9 +11,6 @@ use Rattle.sizes.proofs.partition.checked_mul.Tie as tie
 returns : tie.Need-returns
 returns c = rw (c .if1 .taken, zero-mul) (sym (checked-fits 0 (omega arith)))
 
-div-if2 : tie.Need-div-if2
-div-if2 c = search needs
-
 mul-t5 : tie.Need-mul-t5
 mul-t5 c = record { fits = omega (arith, product-within (c .before .before .args .a) (c .before .before .args .b) _ (search needs) (c .if2 .taken)) }
 
@@ -24,4 +21,4 @@ returns-3 : tie.Need-returns-3
 returns-3 c = sym (checked-past _ (omega (arith, product-past (c .before .before .args .a) (c .before .before .args .b) _ (search needs) (c .if2 .left))))
 
 pub checked-mul-spec : {M : Type 1} → statement M
-checked-mul-spec = tie.close (tie.spec returns div-if2 mul-t5 returns-2 returns-3)
+checked-mul-spec = tie.close (tie.spec returns (λ c. search needs) mul-t5 returns-2 returns-3)

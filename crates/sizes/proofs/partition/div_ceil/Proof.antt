@@ -1,5 +1,5 @@
 use mathlib.Core.Path.{sym}
-use Prim.Native.Nat.{_-_, _<_}
+use Prim.Native.Nat.{_<_}
 use native.Mathlib.Omega.{arith}
 use borrow.Author.Needs.{needs}
 use Prim.Native.Nat.{_/_}
@@ -12,12 +12,6 @@ use Rattle.sizes.proofs.partition.div_ceil.Tie as tie
 returns : tie.Need-returns
 unfolding ceil
 returns c = rw (c .if1 .taken) (sym (div-zero _))
-
-div-q : tie.Need-div-q
-div-q c = search needs
-
-rem-if2 : tie.Need-rem-if2
-rem-if2 c = search needs
 
 returns-2 : tie.Need-returns-2
 returns-2 c = sym (ceil-exact _ _ (search needs) (c .if2 .taken))
@@ -35,4 +29,4 @@ returns-3 : tie.Need-returns-3
 returns-3 c = sym (ceil-more _ _ (search needs) (c .if2 .left))
 
 pub div-ceil-spec : {M : Type 1} → statement M
-div-ceil-spec = tie.close (tie.spec returns div-q rem-if2 returns-2 add-result returns-3)
+div-ceil-spec = tie.close (tie.spec returns (λ c. search needs) (λ c. search needs) returns-2 add-result returns-3)

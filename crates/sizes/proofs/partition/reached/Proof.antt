@@ -17,16 +17,10 @@ some-size c = omega (arith, eqb-false (c .before .before .args .size) 0 (c .if2 
 returns : tie.Need-returns
 returns c = sym (⊎-elim (λ w. reach-later _ _ _ (omega arith)) (λ w. reach-empty _ _ _ (eqb-true _ _ (w .1 .taken))) (c .if1 .came))
 
-sub-if3 : tie.Need-sub-if3
-sub-if3 c = search needs
-
 returns-2 : tie.Need-returns-2
 returns-2 c =
     let size = some-size (c .before) in
     sym (reach-some _ _ _ (omega arith) (omega arith) ∙ ap some (min-eq-left (c .if3 .taken)))
-
-sub-t6 : tie.Need-sub-t6
-sub-t6 c = search needs
 
 returns-3 : tie.Need-returns-3
 returns-3 c =
@@ -34,4 +28,4 @@ returns-3 c =
     sym (reach-some _ _ _ (omega arith) (omega arith) ∙ ap some (min-eq-right (omega arith)))
 
 pub reached-spec : {M : Type 1} → statement M
-reached-spec = tie.close (tie.spec returns sub-if3 returns-2 sub-t6 returns-3)
+reached-spec = tie.close (tie.spec returns (λ c. search needs) returns-2 (λ c. search needs) returns-3)

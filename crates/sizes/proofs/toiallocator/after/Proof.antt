@@ -6,20 +6,10 @@ use Rattle.sizes.proofs.AllocatorLaws.{cut-64}
 use Rattle.sizes.proofs.toiallocator.after.Statement.{statement}
 use Rattle.sizes.proofs.toiallocator.after.Tie as tie
 
-wrapping-add-u64-requires : tie.Need-wrapping-add-u64-requires
-wrapping-add-u64-requires c κs = search needs
-
-to-max-length-requires : tie.Need-to-max-length-requires
-to-max-length-requires c κs = search needs
-
-nonzero-requires : tie.Need-nonzero-requires
-nonzero-requires c κs = search needs
-
 returns : tie.Need-returns
 unfolding after cut-to
 returns c = let s = c .before .before .before in
     c .nonzero .ensures ∙ ap skip-zero (c .before .to-max-length .ensures ∙ rw (c .before .before .wrapping-add-u64 .ensures) (cut-64 (s .args .width) (s .args .n + 1) (s .pre)))
 
 pub after-spec : {M : Type 1} → statement M
-after-spec =
-    tie.close (tie.spec wrapping-add-u64-requires to-max-length-requires nonzero-requires returns)
+after-spec = tie.close (tie.spec (λ c κs. search needs) (λ c κs. search needs) (λ c κs. search needs) returns)

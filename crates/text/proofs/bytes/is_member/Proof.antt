@@ -7,18 +7,6 @@ use Rattle.text.proofs.bytes.is_member.Tie as tie
 enum-told : tie.Need-enum-told
 enum-told c = search needs
 
-is-blank-requires : tie.Need-is-blank-requires
-is-blank-requires c κs = search needs
-
-enum-told-2 : tie.Need-enum-told-2
-enum-told-2 c = search needs
-
-is-blank-requires-2 : tie.Need-is-blank-requires-2
-is-blank-requires-2 c κs = search needs
-
-enum-told-3 : tie.Need-enum-told-3
-enum-told-3 c = search needs
-
 returns : tie.Need-returns
 unfolding member
 returns c = rw (c .before .enum-told .given .1) (c .is-blank .ensures)
@@ -33,13 +21,4 @@ returns-3 c = rw (c .enum-told3 .given .1)
 
 pub is-member-spec : {M : Type 1} → statement M
 is-member-spec =
-    tie.close
-    (tie.spec
-    enum-told
-    is-blank-requires
-    enum-told-2
-    is-blank-requires-2
-    enum-told-3
-    returns
-    returns-2
-    returns-3)
+    tie.close (tie.spec enum-told (λ c κs. search needs) (λ c. search needs) (λ c κs. search needs) (λ c. search needs) returns returns-2 returns-3)

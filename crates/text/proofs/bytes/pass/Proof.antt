@@ -46,15 +46,4 @@ returns-2 c = sym (c .before .loop .inv ∙ pass-end _ _ (c .before .loop .i) (o
 
 pub pass-spec : {M : Type 1} → statement M
 pass-spec =
-    tie.close
-    (tie.spec
-    Inv-loop
-    μ-loop
-    loop-holds
-    shared-slice-read-is-member
-    is-member-requires
-    returns
-    add-i
-    loop-less
-    loop-again
-    returns-2)
+    tie.close (tie.spec Inv-loop μ-loop loop-holds shared-slice-read-is-member is-member-requires returns add-i loop-less loop-again returns-2)

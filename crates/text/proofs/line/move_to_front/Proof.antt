@@ -58,16 +58,4 @@ returns c =
 
 pub move-to-front-spec : {M : Type 1} → statement M
 move-to-front-spec =
-    tie.close
-    (tie.spec
-    Inv-loop
-    μ-loop
-    loop-holds
-    add-buf
-    slice-read-buf
-    slice-write-buf
-    add-i
-    loop-less
-    loop-again
-    same-length
-    returns)
+    tie.close (tie.spec Inv-loop μ-loop loop-holds add-buf slice-read-buf slice-write-buf add-i loop-less loop-again same-length returns)

@@ -7,7 +7,7 @@ use mathlib.Core.Bool.{Bool, true, false}
 use mathlib.Core.Logic.{inl, inr}
 use lib.ListN.{length}
 use Rattle.text.specs.Bytes.{part}
-use Rattle.text.specs.Lines.{StartsWith, line-of}
+use Rattle.text.specs.Lines.{StartsWith, line-from}
 use Rattle.text.specs.declared.line.Input.{Input}
 use Rattle.text.proofs.Lists.{part-length}
 use Rattle.text.proofs.Lines.{starts-self, starts-refilled, taken}
@@ -46,7 +46,7 @@ same-length-2 : tie.Need-same-length-2 Inv-loop μ-loop
 same-length-2 c = search needs
 
 returns-2 : tie.Need-returns-2 Inv-loop μ-loop
-unfolding line-of
+unfolding line-from
 returns-2 c =
     let l = c .before .before .before .before .before in
     let f = c .before .before .first-line2 .ensures in
@@ -97,25 +97,6 @@ returns-4 c =
 
 pub take-from-spec : {M : Type 1} → statement M
 take-from-spec =
-    tie.close
-    (tie.spec
-    Inv-loop
-    μ-loop
-    first-line-requires
-    same-length
-    returns
-    loop-holds
-    sub-loop
-    first-line-requires-2
-    same-length-2
-    returns-2
-    refill-requires
-    sub-if3
-    first-line-requires-3
-    same-length-3
-    returns-3
-    loop-less
-    loop-again
-    first-line-requires-4
-    same-length-4
-    returns-4)
+    tie.close (tie.spec
+    Inv-loop μ-loop first-line-requires same-length returns loop-holds sub-loop first-line-requires-2 same-length-2 returns-2 refill-requires
+    sub-if3 first-line-requires-3 same-length-3 returns-3 loop-less loop-again first-line-requires-4 same-length-4 returns-4)

@@ -5,33 +5,12 @@ use Rattle.text.proofs.Numbers.{next-number}
 use Rattle.text.proofs.number.next_number.Statement.{statement}
 use Rattle.text.proofs.number.next_number.Tie as tie
 
-next-word-requires : tie.Need-next-word-requires
-next-word-requires c κs = search needs
-
-enum-known-start : tie.Need-enum-known-start
-enum-known-start c = search needs
-
 enum-told : tie.Need-enum-told
 enum-told c = search needs
 
 returns : tie.Need-returns
 unfolding field-from field-at
 returns c = next-number _ _ _ (rw (← c .before .before .next-word .ensures .exact, c .enum-told .given .1))
-
-part-requires : tie.Need-part-requires
-part-requires c κs = search needs
-
-number-of-requires : tie.Need-number-of-requires
-number-of-requires c κs = search needs
-
-enum-known-value : tie.Need-enum-known-value
-enum-known-value c = search needs
-
-enum-told-2 : tie.Need-enum-told-2
-enum-told-2 c = search needs
-
-enum-told-3 : tie.Need-enum-told-3
-enum-told-3 c = search needs
 
 returns-2 : tie.Need-returns-2
 unfolding field-from field-at field-of
@@ -53,17 +32,6 @@ returns-4 c =
 
 pub next-number-spec : {M : Type 1} → statement M
 next-number-spec =
-    tie.close
-    (tie.spec
-    next-word-requires
-    enum-known-start
-    enum-told
-    returns
-    part-requires
-    number-of-requires
-    enum-known-value
-    enum-told-2
-    enum-told-3
-    returns-2
-    returns-3
-    returns-4)
+    tie.close (tie.spec
+    (λ c κs. search needs) (λ c. search needs) enum-told returns (λ c κs. search needs) (λ c κs. search needs) (λ c. search needs)
+    (λ c. search needs) (λ c. search needs) returns-2 returns-3 returns-4)

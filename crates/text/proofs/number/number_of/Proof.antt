@@ -66,17 +66,5 @@ returns-3 c =
 
 pub number-of-spec : {M : Type 1} → statement M
 number-of-spec =
-    tie.close
-    (tie.spec
-    Inv-loop
-    μ-loop
-    returns
-    loop-holds
-    shared-slice-read-b
-    is-digit-requires
-    returns-2
-    with-digit-requires
-    add-i
-    loop-less
-    loop-again
-    returns-3)
+    tie.close (tie.spec
+    Inv-loop μ-loop returns loop-holds shared-slice-read-b is-digit-requires returns-2 with-digit-requires add-i loop-less loop-again returns-3)

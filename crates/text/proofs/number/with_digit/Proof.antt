@@ -9,32 +9,14 @@ use Rattle.text.proofs.number.with_digit.Tie as tie
 enum-told : tie.Need-enum-told
 enum-told c = search needs
 
-enum-told-2 : tie.Need-enum-told-2
-enum-told-2 c = search needs
-
-enum-known-n : tie.Need-enum-known-n
-enum-known-n c = search needs
-
 returns : tie.Need-returns
 returns c = λ v h. sym (width-past _ (omega (arith, width-value v _ (sym h ∙ c .before .before .n .given .1))))
-
-mul-tens : tie.Need-mul-tens
-mul-tens c = search needs
 
 sub-d : tie.Need-sub-d
 sub-d c = omega (arith, digit-range _ (c .before .before .before .before .pre))
 
-cast-d : tie.Need-cast-d
-cast-d c = search needs
-
-sub-if2 : tie.Need-sub-if2
-sub-if2 c = search needs
-
 returns-2 : tie.Need-returns-2
 returns-2 c = λ v h. sym (width-past _ (omega (arith, digit-range _ (c .before .before .before .before .before .pre), width-value v _ (sym h ∙ c .before .before .before .n .given .1))))
-
-add-t9 : tie.Need-add-t9
-add-t9 c = search needs
 
 returns-3 : tie.Need-returns-3
 returns-3 c = λ v h. sym (width-past _ (omega (arith, width-past-only v (sym h ∙ c .enum-told .given .1))))
@@ -50,18 +32,6 @@ returns-5 c = λ v h.
 
 pub with-digit-spec : {M : Type 1} → statement M
 with-digit-spec =
-    tie.close
-    (tie.spec
-    enum-told
-    enum-told-2
-    enum-known-n
-    returns
-    mul-tens
-    sub-d
-    cast-d
-    sub-if2
-    returns-2
-    add-t9
-    returns-3
-    returns-4
-    returns-5)
+    tie.close (tie.spec
+    enum-told (λ c. search needs) (λ c. search needs) returns (λ c. search needs) sub-d (λ c. search needs) (λ c. search needs) returns-2
+    (λ c. search needs) returns-3 returns-4 returns-5)

@@ -57,16 +57,4 @@ returns c =
 
 pub append-spec : {M : Type 1} → statement M
 append-spec =
-    tie.close
-    (tie.spec
-    Inv-loop
-    μ-loop
-    loop-holds
-    shared-slice-read-out
-    slice-write-out
-    add-end
-    add-i
-    loop-less
-    loop-again
-    same-length
-    returns)
+    tie.close (tie.spec Inv-loop μ-loop loop-holds shared-slice-read-out slice-write-out add-end add-i loop-less loop-again same-length returns)

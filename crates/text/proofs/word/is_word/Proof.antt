@@ -50,16 +50,5 @@ returns-3 c =
 
 pub is-word-spec : {M : Type 1} → statement M
 is-word-spec =
-    tie.close
-    (tie.spec
-    Inv-loop
-    μ-loop
-    returns
-    loop-holds
-    shared-slice-read-if2
-    shared-slice-read-if2-2
-    returns-2
-    add-i
-    loop-less
-    loop-again
-    returns-3)
+    tie.close (tie.spec
+    Inv-loop μ-loop returns loop-holds shared-slice-read-if2 shared-slice-read-if2-2 returns-2 add-i loop-less loop-again returns-3)

@@ -7,18 +7,12 @@ use Rattle.text.proofs.Words.{word-none, word-some, next-word}
 use Rattle.text.proofs.word.next_word.Statement.{statement}
 use Rattle.text.proofs.word.next_word.Tie as tie
 
-pass-requires : tie.Need-pass-requires
-pass-requires c κs = search needs
-
 returns : tie.Need-returns
 unfolding member
 returns c =
     let a = c .before .before .before .args in
     let e = word-none (now (a .s)) (a .from) (rw (← c .before .pass .ensures) (c .if1 .taken)) in
     next-word _ _ _ (sym e)
-
-pass-requires-2 : tie.Need-pass-requires-2
-pass-requires-2 c κs = search needs
 
 returns-2 : tie.Need-returns-2
 unfolding member
@@ -30,4 +24,4 @@ returns-2 c =
     next-word _ _ _ (sym f)
 
 pub next-word-spec : {M : Type 1} → statement M
-next-word-spec = tie.close (tie.spec pass-requires returns pass-requires-2 returns-2)
+next-word-spec = tie.close (tie.spec (λ c κs. search needs) returns (λ c κs. search needs) returns-2)

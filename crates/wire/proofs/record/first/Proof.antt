@@ -5,23 +5,14 @@ use Rattle.wire.proofs.RecordLaws.{good-fit, flag-below, byte-flag, fir
 use Rattle.wire.proofs.record.first.Statement.{statement}
 use Rattle.wire.proofs.record.first.Tie as tie
 
-cast-result : tie.Need-cast-result
-cast-result c = search needs
-
 mul-result : tie.Need-mul-result
 mul-result c = omega (arith, byte-flag (c .before .args .r .«is_fdt»), flag-below (c .before .args .r .«is_fdt»))
-
-cast-result-2 : tie.Need-cast-result-2
-cast-result-2 c = search needs
 
 mul-result-2 : tie.Need-mul-result-2
 mul-result-2 c = omega (arith, byte-flag (c .before .before .args .r .close), flag-below (c .before .before .args .r .close))
 
 add-result : tie.Need-add-result
 add-result c = omega (arith, byte-flag (c .before .before .args .r .«is_fdt»), flag-below (c .before .before .args .r .«is_fdt»), byte-flag (c .before .before .args .r .close), flag-below (c .before .before .args .r .close))
-
-cast-result-3 : tie.Need-cast-result-3
-cast-result-3 c = search needs
 
 mul-result-3 : tie.Need-mul-result-3
 mul-result-3 c = let g = good-fit _ (c .before .before .before .pre) in omega arith
@@ -37,15 +28,5 @@ returns c = omega (arith, first-sum (c .before .before .before .before .args .r)
 
 pub first-spec : {M : Type 1} → statement M
 first-spec =
-    tie.close
-    (tie.spec
-    cast-result
-    mul-result
-    cast-result-2
-    mul-result-2
-    add-result
-    cast-result-3
-    mul-result-3
-    add-result-2
-    add-result-3
-    returns)
+    tie.close (tie.spec
+    (λ c. search needs) mul-result (λ c. search needs) mul-result-2 add-result (λ c. search needs) mul-result-3 add-result-2 add-result-3 returns)

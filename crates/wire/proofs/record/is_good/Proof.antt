@@ -24,21 +24,8 @@ returns-5 c = sym (wide-bad _ (λ f. omega arith))
 returns-6 : tie.Need-returns-6
 returns-6 c = sym (wide-bad _ (λ f. omega arith))
 
-is-well-named-requires : tie.Need-is-well-named-requires
-is-well-named-requires c κs = search needs
-
 returns-7 : tie.Need-returns-7
 returns-7 c = c .is-well-named .ensures ∙ sym (fit-good _ (omega arith))
 
 pub is-good-spec : {M : Type 1} → statement M
-is-good-spec =
-    tie.close
-    (tie.spec
-    returns
-    returns-2
-    returns-3
-    returns-4
-    returns-5
-    returns-6
-    is-well-named-requires
-    returns-7)
+is-good-spec = tie.close (tie.spec returns returns-2 returns-3 returns-4 returns-5 returns-6 (λ c κs. search needs) returns-7)

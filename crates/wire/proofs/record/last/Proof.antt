@@ -5,11 +5,8 @@ use Rattle.wire.proofs.RecordLaws.{last-sum}
 use Rattle.wire.proofs.record.last.Statement.{statement}
 use Rattle.wire.proofs.record.last.Tie as tie
 
-mul-result : tie.Need-mul-result
-mul-result c = search needs
-
 returns : tie.Need-returns
 returns c = omega (arith, last-sum (c .before .args .r))
 
 pub last-spec : {M : Type 1} → statement M
-last-spec = tie.close (tie.spec mul-result returns)
+last-spec = tie.close (tie.spec (λ c. search needs) returns)

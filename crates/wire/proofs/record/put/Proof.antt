@@ -49,17 +49,4 @@ returns c =
     put-all _ _ _ _ (l .out) (l .rest) (subst (λ n. Putting (a .out .now) (a .at) (a .n) (a .w) (l .out) (l .rest) n) e (l .inv))
 
 pub put-spec : {M : Type 1} → statement M
-put-spec =
-    tie.close
-    (tie.spec
-    Inv-loop
-    μ-loop
-    loop-holds
-    sub-i
-    cast-out
-    add-out
-    slice-write-out
-    loop-less
-    loop-again
-    same-length
-    returns)
+put-spec = tie.close (tie.spec Inv-loop μ-loop loop-holds sub-i cast-out add-out slice-write-out loop-less loop-again same-length returns)

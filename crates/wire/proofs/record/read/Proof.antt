@@ -10,18 +10,6 @@ use Rattle.wire.proofs.record.read.Tie as tie
 returns : tie.Need-returns
 returns c = read-unlike _ (c .if1 .taken)
 
-word-at-requires : tie.Need-word-at-requires
-word-at-requires c κs = search needs
-
-word-at-requires-2 : tie.Need-word-at-requires-2
-word-at-requires-2 c κs = search needs
-
-word-at-requires-3 : tie.Need-word-at-requires-3
-word-at-requires-3 c κs = search needs
-
-word-at-requires-4 : tie.Need-word-at-requires-4
-word-at-requires-4 c κs = search needs
-
 returns-2 : tie.Need-returns-2
 returns-2 c =
     let d = c .before in
@@ -31,15 +19,9 @@ returns-2 c =
     let h = a .before .if1 .left in
     read-padded _ h (λ z. c .if2 .taken (sym (words-padding _ h _ _ _ _ (a .word-at .ensures .0) (b .word-at2 .ensures .0) (t .word-at3 .ensures .0) (d .word-at4 .ensures .0)) ∙ z))
 
-fields-of-requires : tie.Need-fields-of-requires
-fields-of-requires c κs = search needs
-
-is-good-requires : tie.Need-is-good-requires
-is-good-requires c κs = search needs
-
 -- the padding is 0, and the record is the one that the four words hold
-held : (c : tie.After-fields-of) → (padding (values-in (c .before .before .before .before .before .before .before .before .args .bytes .now)) ≡ 0)
-    × (with-values (values-in (c .before .before .before .before .before .before .before .before .args .bytes .now)) ≡ c .fields-of .result)
+held : (c : tie.After-record-in) → (padding (values-in (c .before .before .before .before .before .before .before .before .args .bytes .now)) ≡ 0)
+    × (with-values (values-in (c .before .before .before .before .before .before .before .before .args .bytes .now)) ≡ c .record-in .result)
 held c =
     let d = c .before .before in
     let t = d .before in
@@ -52,7 +34,7 @@ held c =
     let et = t .word-at3 .ensures in
     let ed = d .word-at4 .ensures in (
       words-padding _ h _ _ _ _ (ea .0) (eb .0) (et .0) (ed .0) ∙ z,
-      words-record _ h _ _ _ _ (ea .0) (eb .0) (et .0) (ed .0) (ea .1) (eb .1) (et .1) (ed .1) z ∙ sym (c .fields-of .ensures),
+      words-record _ h _ _ _ _ (ea .0) (eb .0) (et .0) (ed .0) (ea .1) (eb .1) (et .1) (ed .1) z ∙ sym (c .record-in .ensures),
     )
 
 returns-3 : tie.Need-returns-3
@@ -67,15 +49,6 @@ returns-4 c =
 
 pub read-spec : {M : Type 1} → statement M
 read-spec =
-    tie.close
-    (tie.spec
-    returns
-    word-at-requires
-    word-at-requires-2
-    word-at-requires-3
-    word-at-requires-4
-    returns-2
-    fields-of-requires
-    is-good-requires
-    returns-3
-    returns-4)
+    tie.close (tie.spec
+    returns (λ c κs. search needs) (λ c κs. search needs) (λ c κs. search needs) (λ c κs. search needs) returns-2 (λ c κs. search needs)
+    (λ c κs. search needs) returns-3 returns-4)

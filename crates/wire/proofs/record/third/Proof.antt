@@ -5,9 +5,6 @@ use Rattle.wire.proofs.RecordLaws.{good-fit, third-sum}
 use Rattle.wire.proofs.record.third.Statement.{statement}
 use Rattle.wire.proofs.record.third.Tie as tie
 
-mul-result : tie.Need-mul-result
-mul-result c = search needs
-
 mul-result-2 : tie.Need-mul-result-2
 mul-result-2 c = let g = good-fit _ (c .before .before .pre) in omega arith
 
@@ -21,4 +18,4 @@ returns : tie.Need-returns
 returns c = omega (arith, third-sum (c .before .before .before .args .r))
 
 pub third-spec : {M : Type 1} → statement M
-third-spec = tie.close (tie.spec mul-result mul-result-2 add-result add-result-2 returns)
+third-spec = tie.close (tie.spec (λ c. search needs) mul-result-2 add-result add-result-2 returns)

@@ -4,19 +4,19 @@ use Prim.Native.Nat.{_+_, _-_, _*_, _<_, _≤_, _^_}
 use native.Mathlib.Omega.{arith}
 use borrow.Author.Needs.{needs}
 use lib.ListN.{take, drop, getD}
-use Rattle.wire.specs.Packing.{join, number-of}
+use Rattle.wire.specs.Packing.{join, number-spelled}
 use Rattle.wire.proofs.WordLaws.{word-more, word-room, word-fits}
 use Rattle.wire.proofs.record.word_at.Statement.{statement}
 use Rattle.wire.proofs.record.word_at.Tie as tie
 
 abbrev Inv-loop : tie.InvT-loop
-Inv-loop bytes at n w₀ i₀ w i = (i ≤ n) × (w ≡ number-of (take i (drop at bytes))) × (w < 2 ^ (8 * i))
+Inv-loop bytes at n w₀ i₀ w i = (i ≤ n) × (w ≡ number-spelled (take i (drop at bytes))) × (w < 2 ^ (8 * i))
 
 abbrev μ-loop : tie.MeasureT-loop
 μ-loop bytes at n w₀ i₀ w i = n - i
 
 loop-holds : tie.Need-loop-holds Inv-loop μ-loop
-unfolding number-of join
+unfolding number-spelled join
 loop-holds c = (omega arith, refl, omega arith)
 
 mul-w : tie.Need-mul-w Inv-loop μ-loop
@@ -57,21 +57,7 @@ returns c =
     let l = c .before .loop in
     let a = c .before .before .args in
     let e : l .i ≡ a .n = omega arith in
-    (l .inv .1 ∙ ap (λ n. number-of (take n (drop (a .at) (a .bytes .now)))) e, subst (λ n. l .w < 2 ^ (8 * n)) e (l .inv .2))
+    (l .inv .1 ∙ ap (λ n. number-spelled (take n (drop (a .at) (a .bytes .now)))) e, subst (λ n. l .w < 2 ^ (8 * n)) e (l .inv .2))
 
 pub word-at-spec : {M : Type 1} → statement M
-word-at-spec =
-    tie.close
-    (tie.spec
-    Inv-loop
-    μ-loop
-    loop-holds
-    mul-w
-    add-w
-    shared-slice-read-w
-    cast-w
-    add-w-2
-    add-i
-    loop-less
-    loop-again
-    returns)
+word-at-spec = tie.close (tie.spec Inv-loop μ-loop loop-holds mul-w add-w shared-slice-read-w cast-w add-w-2 add-i loop-less loop-again returns)

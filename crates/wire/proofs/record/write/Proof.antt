@@ -9,9 +9,6 @@ use Rattle.wire.proofs.record.write.Tie as tie
 returns : tie.Need-returns
 returns c = write-short _ _ (c .if1 .taken)
 
-is-good-requires : tie.Need-is-good-requires
-is-good-requires c κs = search needs
-
 returns-2 : tie.Need-returns-2
 returns-2 c = write-bad _ _ (c .before .before .if1 .left) (sym (c .before .is-good .ensures) ∙ not-true _ (c .if2 .taken))
 
@@ -23,15 +20,6 @@ second-requires c κs = sym (c .before .before .before .is-good .ensures) ∙ no
 
 third-requires : tie.Need-third-requires
 third-requires c κs = sym (c .before .before .before .before .is-good .ensures) ∙ not-false _ (c .before .before .before .if2 .left)
-
-last-requires : tie.Need-last-requires
-last-requires c κs = search needs
-
-put-words-requires : tie.Need-put-words-requires
-put-words-requires c κs = search needs
-
-same-length : tie.Need-same-length
-same-length c = search needs
 
 returns-3 : tie.Need-returns-3
 returns-3 c =
@@ -46,15 +34,6 @@ returns-3 c =
 
 pub write-spec : {M : Type 1} → statement M
 write-spec =
-    tie.close
-    (tie.spec
-    returns
-    is-good-requires
-    returns-2
-    first-requires
-    second-requires
-    third-requires
-    last-requires
-    put-words-requires
-    same-length
-    returns-3)
+    tie.close (tie.spec
+    returns (λ c κs. search needs) returns-2 first-requires second-requires third-requires (λ c κs. search needs) (λ c κs. search needs)
+    (λ c. search needs) returns-3)

@@ -7,37 +7,16 @@ use Rattle.lifecycle.proofs.AnnounceLaws.{needed-empty}
 use Rattle.lifecycle.proofs.announce.Announcer.get_next_fdt_transfer.Statement.{statement}
 use Rattle.lifecycle.proofs.announce.Announcer.get_next_fdt_transfer.Tie as tie
 
-is-transferring-requires : tie.Need-is-transferring-requires
-is-transferring-requires c κs = search needs
-
 returns : tie.Need-returns
 unfolding next-of
 returns c = rw (sym (c .before .is-transferring .ensures) ∙ c .if1 .taken)
-
-needs-new-requires : tie.Need-needs-new-requires
-needs-new-requires c κs = search needs
-
-with-front-requires : tie.Need-with-front-requires
-with-front-requires c κs = search needs
-
-with-start-requires : tie.Need-with-start-requires
-with-start-requires c κs = search needs
 
 returns-2 : tie.Need-returns-2
 unfolding next-of republished-of
 returns-2 c = rw (c .with-start .ensures, c .before .with-front .ensures, sym (c .before .before .before .before .before .is-transferring .ensures) ∙ c .before .before .before .before .if1 .left, sym (c .before .before .before .needs-new .ensures) ∙ not-true (c .before .before .before .needs-new .result) (c .before .before .if2 .taken))
 
-enum-known-draft : tie.Need-enum-known-draft
-enum-known-draft c = search needs
-
 enum-told : tie.Need-enum-told
 enum-told c = search needs
-
-with-front-requires-2 : tie.Need-with-front-requires-2
-with-front-requires-2 c κs = search needs
-
-with-start-requires-2 : tie.Need-with-start-requires-2
-with-start-requires-2 c κs = search needs
 
 returns-3 : tie.Need-returns-3
 unfolding next-of republished-of
@@ -48,32 +27,12 @@ with-published-requires c κs = let s = c .before .before .before .before .befor
     let e = needed-empty (s .args .validity) (s .args .now) (s .args .self) (sym (c .before .before .before .before .needs-new .ensures) ∙ not-false (c .before .before .before .before .needs-new .result) (c .before .before .before .if2 .left)) in
     (s .pre, omega arith)
 
-with-front-requires-3 : tie.Need-with-front-requires-3
-with-front-requires-3 c κs = search needs
-
-with-start-requires-3 : tie.Need-with-start-requires-3
-with-start-requires-3 c κs = search needs
-
 returns-4 : tie.Need-returns-4
 unfolding next-of republished-of
 returns-4 c = rw (c .with-start3 .ensures, c .before .with-front3 .ensures, c .before .before .with-published .ensures, sym (c .before .before .before .before .before .before .before .before .before .is-transferring .ensures) ∙ c .before .before .before .before .before .before .before .before .if1 .left, sym (c .before .before .before .before .before .before .before .needs-new .ensures) ∙ not-false (c .before .before .before .before .before .before .before .needs-new .result) (c .before .before .before .before .before .before .if2 .left), c .before .before .before .before .draft .given .1)
 
 pub get-next-fdt-transfer-spec : {M : Type 1} → statement M
 get-next-fdt-transfer-spec =
-    tie.close
-    (tie.spec
-    is-transferring-requires
-    returns
-    needs-new-requires
-    with-front-requires
-    with-start-requires
-    returns-2
-    enum-known-draft
-    enum-told
-    with-front-requires-2
-    with-start-requires-2
-    returns-3
-    with-published-requires
-    with-front-requires-3
-    with-start-requires-3
-    returns-4)
+    tie.close (tie.spec
+    (λ c κs. search needs) returns (λ c κs. search needs) (λ c κs. search needs) (λ c κs. search needs) returns-2 (λ c. search needs) enum-told
+    (λ c κs. search needs) (λ c κs. search needs) returns-3 with-published-requires (λ c κs. search needs) (λ c κs. search needs) returns-4)

@@ -2,11 +2,8 @@ use borrow.Author.Needs.{needs}
 use Rattle.lifecycle.proofs.announce.Announcer.new.Statement.{statement}
 use Rattle.lifecycle.proofs.announce.Announcer.new.Tie as tie
 
-no-fdt-requires : tie.Need-no-fdt-requires
-no-fdt-requires c κs = search needs
-
 returns : tie.Need-returns
-returns c = rw (c .no-fdt .ensures)
+returns c = rw (c .none .ensures, c .before .no-fdt .ensures)
 
 pub new-spec : {M : Type 1} → statement M
-new-spec = tie.close (tie.spec no-fdt-requires returns)
+new-spec = tie.close (tie.spec (λ c κs. search needs) (λ c κs. search needs) returns)

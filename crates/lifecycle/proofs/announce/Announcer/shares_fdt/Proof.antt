@@ -62,18 +62,5 @@ returns-3 c = let l = c .before .before .before .before .loop in
 
 pub shares-fdt-spec : {M : Type 1} → statement M
 shares-fdt-spec =
-    tie.close
-    (tie.spec
-    Inv-loop
-    μ-loop
-    loop-holds
-    mul-i
-    array-copy-out-i
-    shares-requires
-    returns
-    add-j
-    loop-less
-    loop-again
-    returns-2
-    shares-requires-2
-    returns-3)
+    tie.close (tie.spec
+    Inv-loop μ-loop loop-holds mul-i array-copy-out-i shares-requires returns add-j loop-less loop-again returns-2 shares-requires-2 returns-3)

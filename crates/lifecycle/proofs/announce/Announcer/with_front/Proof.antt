@@ -8,19 +8,9 @@ returns : tie.Need-returns
 unfolding front-of
 returns c = rw (eq-eqb (c .before .before .args .self .waiting) 0 (c .if1 .taken))
 
-array-copy-out-current : tie.Need-array-copy-out-current
-array-copy-out-current c = search needs
-
-moved-up-requires : tie.Need-moved-up-requires
-moved-up-requires c κs = search needs
-
-sub-self : tie.Need-sub-self
-sub-self c = search needs
-
 returns-2 : tie.Need-returns-2
 unfolding front-of
 returns-2 c = rw (c .before .moved-up .ensures, ne-eqb (c .before .before .before .before .before .before .args .self .waiting) 0 (c .before .before .before .before .if1 .left))
 
 pub with-front-spec : {M : Type 1} → statement M
-with-front-spec =
-    tie.close (tie.spec returns array-copy-out-current moved-up-requires sub-self returns-2)
+with-front-spec = tie.close (tie.spec returns (λ c. search needs) (λ c κs. search needs) (λ c. search needs) returns-2)

@@ -5,26 +5,11 @@ use Rattle.sizes.specs.declared.toiallocator.Allocated.{Allocated}
 use Rattle.lifecycle.proofs.fdt.Fdt.add_fresh.Statement.{statement}
 use Rattle.lifecycle.proofs.fdt.Fdt.add_fresh.Tie as tie
 
-free-slot-requires : tie.Need-free-slot-requires
-free-slot-requires c κs = search needs
-
-enum-known-k : tie.Need-enum-known-k
-enum-known-k c = search needs
-
 enum-told : tie.Need-enum-told
 enum-told c = search needs
 
 returns : tie.Need-returns
 returns c = let a = c .before .before .before .before .args in sym (fresh-none (a .self) (a .q) (a .z) (said-none (c .before .before .free-slot .ensures) (c .enum-told .given .1)))
-
-allocate-requires : tie.Need-allocate-requires
-allocate-requires c κs = search needs
-
-enum-known-answer : tie.Need-enum-known-answer
-enum-known-answer c = search needs
-
-enum-told-2 : tie.Need-enum-told-2
-enum-told-2 c = search needs
 
 returns-2 : tie.Need-returns-2
 returns-2 c = let a = c .before .before .before .before .before .before .before .before .args in
@@ -42,15 +27,6 @@ returns-3 c = let a = c .before .before .before .before .before .before .before 
 
 pub add-fresh-spec : {M : Type 1} → statement M
 add-fresh-spec =
-    tie.close
-    (tie.spec
-    free-slot-requires
-    enum-known-k
-    enum-told
-    returns
-    allocate-requires
-    enum-known-answer
-    enum-told-2
-    returns-2
-    put-requires
-    returns-3)
+    tie.close (tie.spec
+    (λ c κs. search needs) (λ c. search needs) enum-told returns (λ c κs. search needs) (λ c. search needs) (λ c. search needs) returns-2
+    put-requires returns-3)

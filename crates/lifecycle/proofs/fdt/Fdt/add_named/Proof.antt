@@ -5,17 +5,8 @@ use borrow.Author.Tests.{not-true, not-false}
 use Rattle.lifecycle.proofs.fdt.Fdt.add_named.Statement.{statement}
 use Rattle.lifecycle.proofs.fdt.Fdt.add_named.Tie as tie
 
-is-loose-requires : tie.Need-is-loose-requires
-is-loose-requires c κs = search needs
-
 returns : tie.Need-returns
 returns c = let a = c .before .before .args in sym (named-unknown (a .self) (a .q) (a .z) (a .toi) (sym (c .before .is-loose .ensures) ∙ not-true _ (c .if1 .taken)))
-
-free-slot-requires : tie.Need-free-slot-requires
-free-slot-requires c κs = search needs
-
-enum-known-k : tie.Need-enum-known-k
-enum-known-k c = search needs
 
 enum-told : tie.Need-enum-told
 enum-told c = search needs
@@ -24,9 +15,6 @@ returns-2 : tie.Need-returns-2
 returns-2 c = let a = c .before .before .before .before .before .before .args in
     let h = sym (c .before .before .before .before .before .is-loose .ensures) ∙ not-false _ (c .before .before .before .before .if1 .left) in
     sym (named-none (a .self) (a .q) (a .z) (a .toi) h (said-none (c .before .before .free-slot .ensures) (c .enum-told .given .1)))
-
-claim-requires : tie.Need-claim-requires
-claim-requires c κs = search needs
 
 put-requires : tie.Need-put-requires
 put-requires c κs = let s = c .before .before .before .before .before .before .before .before .before in free-found (s .args .self) (s .pre) _ (said-some (c .before .before .before .before .before .free-slot .ensures) (c .before .before .before .k .given .1))
@@ -38,14 +26,5 @@ returns-3 c = let a = c .before .before .before .before .before .before .before 
 
 pub add-named-spec : {M : Type 1} → statement M
 add-named-spec =
-    tie.close
-    (tie.spec
-    is-loose-requires
-    returns
-    free-slot-requires
-    enum-known-k
-    enum-told
-    returns-2
-    claim-requires
-    put-requires
-    returns-3)
+    tie.close (tie.spec
+    (λ c κs. search needs) returns (λ c κs. search needs) (λ c. search needs) enum-told returns-2 (λ c κs. search needs) put-requires returns-3)

@@ -6,33 +6,17 @@ use mathlib.Core.Bool.{true}
 use Rattle.lifecycle.proofs.fdt.Fdt.get_next_fdt_transfer.Statement.{statement}
 use Rattle.lifecycle.proofs.fdt.Fdt.get_next_fdt_transfer.Tie as tie
 
-fdt-rule-requires : tie.Need-fdt-rule-requires
-fdt-rule-requires c κs = search needs
-
-get-next-fdt-transfer-requires : tie.Need-get-next-fdt-transfer-requires
-get-next-fdt-transfer-requires c κs = search needs
-
-announced-requires : tie.Need-announced-requires
-announced-requires c κs = search needs
-
 returns : tie.Need-returns
 returns c =
     let s = c .before .before .before .before .before .args in
     let n = c .before .before .before .get-next-fdt-transfer .result in
     ap (λ (g : Fdt). record { taken = true; starts = n .starts; fdt = g }) (c .announced .ensures)
-    ∙ next-taken-by (s .now) (s .draft) (s .self) (c .before .before .before .before .fdt-rule .result) n (c .before .before .before .before .fdt-rule .ensures) (c .before .before .before .get-next-fdt-transfer .ensures) (c .before .if1 .taken)
+    ∙ next-taken-by (s .now) (s .draft) (s .self) (c .before .before .before .before .fdt-plan .result) n (c .before .before .before .before .fdt-plan .ensures) (c .before .before .before .get-next-fdt-transfer .ensures) (c .before .if1 .taken)
 
 returns-2 : tie.Need-returns-2
 returns-2 c =
     let s = c .before .before .before .before .args in
-    next-left-by (s .now) (s .draft) (s .self) (c .before .before .before .fdt-rule .result) (c .before .before .get-next-fdt-transfer .result) (c .before .before .before .fdt-rule .ensures) (c .before .before .get-next-fdt-transfer .ensures) (c .if1 .left)
+    next-left-by (s .now) (s .draft) (s .self) (c .before .before .before .fdt-plan .result) (c .before .before .get-next-fdt-transfer .result) (c .before .before .before .fdt-plan .ensures) (c .before .before .get-next-fdt-transfer .ensures) (c .if1 .left)
 
 pub get-next-fdt-transfer-spec : {M : Type 1} → statement M
-get-next-fdt-transfer-spec =
-    tie.close
-    (tie.spec
-    fdt-rule-requires
-    get-next-fdt-transfer-requires
-    announced-requires
-    returns
-    returns-2)
+get-next-fdt-transfer-spec = tie.close (tie.spec (λ c κs. search needs) (λ c κs. search needs) (λ c κs. search needs) returns returns-2)

@@ -7,9 +7,6 @@ use Rattle.lifecycle.proofs.fdt.Fdt.get_next_file_transfer.Tie as tie
 first-startable-requires : tie.Need-first-startable-requires
 first-startable-requires c κs = (c .before .before .pre .queued, queue-inside (c .before .before .args .self) (c .before .before .pre))
 
-enum-known-n : tie.Need-enum-known-n
-enum-known-n c = search needs
-
 enum-told : tie.Need-enum-told
 enum-told c = search needs
 
@@ -35,13 +32,4 @@ returns-2 c = let a = c .before .before .before .before .before .before .before 
 
 pub get-next-file-transfer-spec : {M : Type 1} → statement M
 get-next-file-transfer-spec =
-    tie.close
-    (tie.spec
-    first-startable-requires
-    enum-known-n
-    enum-told
-    returns
-    mul-k
-    array-read-k
-    taken-requires
-    returns-2)
+    tie.close (tie.spec first-startable-requires (λ c. search needs) enum-told returns mul-k array-read-k taken-requires returns-2)

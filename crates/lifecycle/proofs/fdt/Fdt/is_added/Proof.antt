@@ -6,14 +6,8 @@ use Rattle.lifecycle.proofs.FdtLaws.{said-some, said-none}
 use Rattle.lifecycle.proofs.fdt.Fdt.is_added.Statement.{statement}
 use Rattle.lifecycle.proofs.fdt.Fdt.is_added.Tie as tie
 
-listed-slot-requires : tie.Need-listed-slot-requires
-listed-slot-requires c κs = search needs
-
 enum-told : tie.Need-enum-told
 enum-told c = search needs
-
-enum-told-2 : tie.Need-enum-told-2
-enum-told-2 c = search needs
 
 returns : tie.Need-returns
 unfolding is-added-of
@@ -24,4 +18,4 @@ unfolding is-added-of
 returns-2 c = sym (ap given (said-some (c .before .before .listed-slot .ensures) (c .enum-told .given .1)))
 
 pub is-added-spec : {M : Type 1} → statement M
-is-added-spec = tie.close (tie.spec listed-slot-requires enum-told enum-told-2 returns returns-2)
+is-added-spec = tie.close (tie.spec (λ c κs. search needs) enum-told (λ c. search needs) returns returns-2)

@@ -5,12 +5,6 @@ use Rattle.lifecycle.specs.Slots.{is-listed-as}
 use Rattle.lifecycle.proofs.fdt.Fdt.nb_transfers.Statement.{statement}
 use Rattle.lifecycle.proofs.fdt.Fdt.nb_transfers.Tie as tie
 
-listed-slot-requires : tie.Need-listed-slot-requires
-listed-slot-requires c κs = search needs
-
-enum-known-k : tie.Need-enum-known-k
-enum-known-k c = search needs
-
 enum-told : tie.Need-enum-told
 enum-told c = search needs
 
@@ -29,13 +23,4 @@ returns-2 : tie.Need-returns-2
 returns-2 c = let a = c .before .before .before .before .before .args in sym (transfers-some (a .toi) (a .self) _ (said-some (c .before .before .before .listed-slot .ensures) (c .before .k .given .1)))
 
 pub nb-transfers-spec : {M : Type 1} → statement M
-nb-transfers-spec =
-    tie.close
-    (tie.spec
-    listed-slot-requires
-    enum-known-k
-    enum-told
-    returns
-    mul-t7
-    element-copy-out-t10
-    returns-2)
+nb-transfers-spec = tie.close (tie.spec (λ c κs. search needs) (λ c. search needs) enum-told returns mul-t7 element-copy-out-t10 returns-2)

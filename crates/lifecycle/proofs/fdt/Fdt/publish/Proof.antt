@@ -5,9 +5,6 @@ use Rattle.lifecycle.proofs.PublishLaws.{queued-by}
 use Rattle.lifecycle.proofs.fdt.Fdt.publish.Statement.{statement}
 use Rattle.lifecycle.proofs.fdt.Fdt.publish.Tie as tie
 
-are-bad-blocks-requires : tie.Need-are-bad-blocks-requires
-are-bad-blocks-requires c κs = search needs
-
 returns : tie.Need-returns
 unfolding publish-of
 returns c = rw (← c .before .are-bad-blocks .ensures, c .if1 .taken)
@@ -30,9 +27,6 @@ returns-4 c = rw (← c .before .before .before .before .before .before .before 
 published-requires : tie.Need-published-requires
 published-requires c κs = c .before .before .before .before .before .before .before .before .pre .fdts
 
-announced-requires : tie.Need-announced-requires
-announced-requires c κs = search needs
-
 returns-5 : tie.Need-returns-5
 unfolding publish-of
 returns-5 c = let s = c .before .before .before .before .before .before .before .before .before .before .args in
@@ -40,14 +34,5 @@ returns-5 c = let s = c .before .before .before .before .before .before .before 
 
 pub publish-spec : {M : Type 1} → statement M
 publish-spec =
-    tie.close
-    (tie.spec
-    are-bad-blocks-requires
-    returns
-    bad-fdt-part-requires
-    returns-2
-    returns-3
-    returns-4
-    published-requires
-    announced-requires
-    returns-5)
+    tie.close (tie.spec
+    (λ c κs. search needs) returns bad-fdt-part-requires returns-2 returns-3 returns-4 published-requires (λ c κs. search needs) returns-5)

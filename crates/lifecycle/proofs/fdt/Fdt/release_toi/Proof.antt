@@ -3,12 +3,9 @@ use Rattle.lifecycle.specs.FdtCalls.{released-of}
 use Rattle.lifecycle.proofs.fdt.Fdt.release_toi.Statement.{statement}
 use Rattle.lifecycle.proofs.fdt.Fdt.release_toi.Tie as tie
 
-release-requires : tie.Need-release-requires
-release-requires c κs = search needs
-
 returns : tie.Need-returns
 unfolding released-of
 returns c = rw (c .before .release .ensures .exact)
 
 pub release-toi-spec : {M : Type 1} → statement M
-release-toi-spec = tie.close (tie.spec release-requires returns)
+release-toi-spec = tie.close (tie.spec (λ c κs. search needs) returns)

@@ -6,12 +6,6 @@ use lib.Dec.{eqb}
 use Rattle.lifecycle.proofs.fdt.Fdt.remove_object.Statement.{statement}
 use Rattle.lifecycle.proofs.fdt.Fdt.remove_object.Tie as tie
 
-listed-slot-requires : tie.Need-listed-slot-requires
-listed-slot-requires c κs = search needs
-
-enum-known-k : tie.Need-enum-known-k
-enum-known-k c = search needs
-
 enum-told : tie.Need-enum-told
 enum-told c = search needs
 
@@ -35,15 +29,6 @@ returns-2 : tie.Need-returns-2
 returns-2 c = let a = c .before .before .before .before .before .before .before .args in
     rw (c .unlisted .ensures) (sym (removed-sent (a .toi) (a .self) _ (said-some (c .before .before .before .before .before .listed-slot .ensures) (c .before .before .before .k .given .1)) (c .before .if1 .taken)))
 
-queue-place-requires : tie.Need-queue-place-requires
-queue-place-requires c κs = search needs
-
-enum-known-n : tie.Need-enum-known-n
-enum-known-n c = search needs
-
-enum-told-2 : tie.Need-enum-told-2
-enum-told-2 c = search needs
-
 returns-3 : tie.Need-returns-3
 returns-3 c = let a = c .before .before .before .before .before .before .before .before .before .before .args in
     let p = said-some (c .before .before .before .before .before .before .before .before .listed-slot .ensures) (c .before .before .before .before .before .before .k .given .1) in
@@ -62,19 +47,6 @@ returns-4 c = let a = c .before .before .before .before .before .before .before 
 
 pub remove-object-spec : {M : Type 1} → statement M
 remove-object-spec =
-    tie.close
-    (tie.spec
-    listed-slot-requires
-    enum-known-k
-    enum-told
-    returns
-    mul-if1
-    element-copy-out-if1
-    unlisted-requires
-    returns-2
-    queue-place-requires
-    enum-known-n
-    enum-told-2
-    returns-3
-    freed-requires
-    returns-4)
+    tie.close (tie.spec
+    (λ c κs. search needs) (λ c. search needs) enum-told returns mul-if1 element-copy-out-if1 unlisted-requires returns-2 (λ c κs. search needs)
+    (λ c. search needs) (λ c. search needs) returns-3 freed-requires returns-4)

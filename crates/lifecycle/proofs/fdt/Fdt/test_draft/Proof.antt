@@ -3,9 +3,6 @@ use Rattle.lifecycle.specs.FdtCalls.{draft-test-of}
 use Rattle.lifecycle.proofs.fdt.Fdt.test_draft.Statement.{statement}
 use Rattle.lifecycle.proofs.fdt.Fdt.test_draft.Tie as tie
 
-enum-known-draft : tie.Need-enum-known-draft
-enum-known-draft c = search needs
-
 enum-told : tie.Need-enum-told
 enum-told c = search needs
 
@@ -13,15 +10,9 @@ returns : tie.Need-returns
 unfolding draft-test-of
 returns c = rw (c .enum-told .given .1)
 
-are-bad-blocks-requires : tie.Need-are-bad-blocks-requires
-are-bad-blocks-requires c κs = search needs
-
 returns-2 : tie.Need-returns-2
 unfolding draft-test-of
 returns-2 c = rw (c .before .before .before .draft .given .1, ← c .before .are-bad-blocks .ensures, c .if1 .taken)
-
-bad-fdt-part-requires : tie.Need-bad-fdt-part-requires
-bad-fdt-part-requires c κs = search needs
 
 returns-3 : tie.Need-returns-3
 unfolding draft-test-of
@@ -33,13 +24,4 @@ returns-4 c = rw (c .before .before .before .before .before .draft .given .1, �
 
 pub test-draft-spec : {M : Type 1} → statement M
 test-draft-spec =
-    tie.close
-    (tie.spec
-    enum-known-draft
-    enum-told
-    returns
-    are-bad-blocks-requires
-    returns-2
-    bad-fdt-part-requires
-    returns-3
-    returns-4)
+    tie.close (tie.spec (λ c. search needs) enum-told returns (λ c κs. search needs) returns-2 (λ c κs. search needs) returns-3 returns-4)

@@ -11,33 +11,15 @@ use Rattle.lifecycle.proofs.fdt.Fdt.transfer_done.Tie as tie
 returns : tie.Need-returns
 returns c = let s = c .before in sym (done-past (s .args .now) (s .args .k) (s .args .self) (s .pre) (c .if1 .taken))
 
-mul-v : tie.Need-mul-v
-mul-v c = search needs
-
-array-copy-out-v : tie.Need-array-copy-out-v
-array-copy-out-v c = search needs
-
 returns-2 : tie.Need-returns-2
 returns-2 c = let a = c .before .before .before .before .before .args in sym (done-still (a .now) (a .k) (a .self) (not-true _ (c .if2 .taken)))
-
-let-go-requires : tie.Need-let-go-requires
-let-go-requires c κs = search needs
 
 returns-3 : tie.Need-returns-3
 returns-3 c = let a = c .before .before .before .before .before .before .before .before .args in c .let-go .ensures ∙ sym (done-unlisted (a .now) (a .k) (a .self) (not-false _ (c .before .before .before .if2 .left)) (not-true _ (c .before .if3 .taken)))
 
-transfer-done-requires : tie.Need-transfer-done-requires
-transfer-done-requires c κs = search needs
-
-is-expired-requires : tie.Need-is-expired-requires
-is-expired-requires c κs = search needs
-
-let-go-requires-2 : tie.Need-let-go-requires-2
-let-go-requires-2 c κs = search needs
-
 returns-4 : tie.Need-returns-4
 returns-4 c = let a = c .before .before .before .before .before .before .before .before .before .before .before .args in
-    let x = sym (ap (λ (d : FileDesc). expired (plan-of (d .rule)) (life-of (d .life))) (c .before .before .before .transfer-done .ensures)) ∙ sym (c .before .before .is-expired .ensures) ∙ c .before .if4 .taken in
+    let x = sym (ap (λ (d : FileDesc). expired (plan-of (d .plan)) (life-of (d .life))) (c .before .before .before .transfer-done .ensures)) ∙ sym (c .before .before .is-expired .ensures) ∙ c .before .if4 .taken in
     c .let-go2 .ensures ∙ sym (done-expired (a .now) (a .k) (a .self) (not-false _ (c .before .before .before .before .before .before .if2 .left)) (not-false _ (c .before .before .before .before .if3 .left)) x)
 
 back-requires : tie.Need-back-requires
@@ -48,22 +30,11 @@ back-requires c κs = let s = c .before .before .before .before .before .before 
 
 returns-5 : tie.Need-returns-5
 returns-5 c = let a = c .before .before .before .before .before .before .before .before .before .before .before .args in
-    let x = sym (ap (λ (d : FileDesc). expired (plan-of (d .rule)) (life-of (d .life))) (c .before .before .before .transfer-done .ensures)) ∙ sym (c .before .before .is-expired .ensures) ∙ c .before .if4 .left in
+    let x = sym (ap (λ (d : FileDesc). expired (plan-of (d .plan)) (life-of (d .life))) (c .before .before .before .transfer-done .ensures)) ∙ sym (c .before .before .is-expired .ensures) ∙ c .before .if4 .left in
     c .back .ensures ∙ sym (done-back (a .now) (a .k) (a .self) (not-false _ (c .before .before .before .before .before .before .if2 .left)) (not-false _ (c .before .before .before .before .if3 .left)) x)
 
 pub transfer-done-spec : {M : Type 1} → statement M
 transfer-done-spec =
-    tie.close
-    (tie.spec
-    returns
-    mul-v
-    array-copy-out-v
-    returns-2
-    let-go-requires
-    returns-3
-    transfer-done-requires
-    is-expired-requires
-    let-go-requires-2
-    returns-4
-    back-requires
-    returns-5)
+    tie.close (tie.spec
+    returns (λ c. search needs) (λ c. search needs) returns-2 (λ c κs. search needs) returns-3 (λ c κs. search needs) (λ c κs. search needs)
+    (λ c κs. search needs) returns-4 back-requires returns-5)

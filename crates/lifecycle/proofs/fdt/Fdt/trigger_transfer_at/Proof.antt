@@ -5,12 +5,6 @@ use Rattle.lifecycle.specs.Slots.{is-listed-as}
 use Rattle.lifecycle.proofs.fdt.Fdt.trigger_transfer_at.Statement.{statement}
 use Rattle.lifecycle.proofs.fdt.Fdt.trigger_transfer_at.Tie as tie
 
-listed-slot-requires : tie.Need-listed-slot-requires
-listed-slot-requires c κs = search needs
-
-enum-known-k : tie.Need-enum-known-k
-enum-known-k c = search needs
-
 enum-told : tie.Need-enum-told
 enum-told c = search needs
 
@@ -29,9 +23,6 @@ returns-2 : tie.Need-returns-2
 returns-2 c = let a = c .before .before .before .before .before .before .before .args in
     sym (triggered-sent (a .toi) (a .self) _ (said-some (c .before .before .before .before .before .listed-slot .ensures) (c .before .before .before .k .given .1)) (a .start) (c .if1 .taken))
 
-reset-last-transfer-requires : tie.Need-reset-last-transfer-requires
-reset-last-transfer-requires c κs = search needs
-
 mul-slots : tie.Need-mul-slots
 mul-slots c = let s = c .before .before .before .before .before .before .before .before in
     let h = found-slot (s .args .self) (s .pre) (is-listed-as (s .args .toi)) _ (said-some (c .before .before .before .before .before .before .listed-slot .ensures) (c .before .before .before .before .k .given .1)) .0 in search needs
@@ -46,16 +37,6 @@ returns-3 c = let a = c .before .before .before .before .before .before .before 
 
 pub trigger-transfer-at-spec : {M : Type 1} → statement M
 trigger-transfer-at-spec =
-    tie.close
-    (tie.spec
-    listed-slot-requires
-    enum-known-k
-    enum-told
-    returns
-    mul-v
-    array-copy-out-v
-    returns-2
-    reset-last-transfer-requires
-    mul-slots
-    array-set-from-slots
-    returns-3)
+    tie.close (tie.spec
+    (λ c κs. search needs) (λ c. search needs) enum-told returns mul-v array-copy-out-v returns-2 (λ c κs. search needs) mul-slots
+    array-set-from-slots returns-3)

@@ -11,24 +11,6 @@ use Rattle.lifecycle.specs.FdtCalls.{with-slots, unlisted-of}
 use Rattle.lifecycle.proofs.fdt.Fdt.unlisted.Statement.{statement}
 use Rattle.lifecycle.proofs.fdt.Fdt.unlisted.Tie as tie
 
-mul-slots : tie.Need-mul-slots
-mul-slots c = search needs
-
-element-copy-out-slots : tie.Need-element-copy-out-slots
-element-copy-out-slots c = search needs
-
-sub-slots : tie.Need-sub-slots
-sub-slots c = search needs
-
-way-write-given-slots : tie.Need-way-write-given-slots
-way-write-given-slots c = search needs
-
-mul-slots-2 : tie.Need-mul-slots-2
-mul-slots-2 c = search needs
-
-way-write-given-slots-2 : tie.Need-way-write-given-slots-2
-way-write-given-slots-2 c = search needs
-
 returns : tie.Need-returns
 unfolding unlisted-of
 returns c = let s = c .before .before .before in
@@ -41,12 +23,5 @@ returns c = let s = c .before .before .before in
 
 pub unlisted-spec : {M : Type 1} → statement M
 unlisted-spec =
-    tie.close
-    (tie.spec
-    mul-slots
-    element-copy-out-slots
-    sub-slots
-    way-write-given-slots
-    mul-slots-2
-    way-write-given-slots-2
-    returns)
+    tie.close (tie.spec
+    (λ c. search needs) (λ c. search needs) (λ c. search needs) (λ c. search needs) (λ c. search needs) (λ c. search needs) returns)

@@ -12,12 +12,9 @@ returns-2 : tie.Need-returns-2
 unfolding startable-file
 returns-2 c = rw (eq-eqb _ _ (c .before .if1 .left), c .if2 .taken)
 
-may-start-now-requires : tie.Need-may-start-now-requires
-may-start-now-requires c κs = search needs
-
 returns-3 : tie.Need-returns-3
 unfolding startable-file
 returns-3 c = rw (← c .may-start-now .ensures, eq-eqb _ _ (c .before .before .if1 .left), c .before .if2 .left)
 
 pub should-transfer-now-spec : {M : Type 1} → statement M
-should-transfer-now-spec = tie.close (tie.spec returns returns-2 may-start-now-requires returns-3)
+should-transfer-now-spec = tie.close (tie.spec returns returns-2 (λ c κs. search needs) returns-3)

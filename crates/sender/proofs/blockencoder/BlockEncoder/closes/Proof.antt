@@ -3,15 +3,6 @@ use borrow.Author.Needs.{needs}
 use Rattle.sender.proofs.blockencoder.BlockEncoder.closes.Statement.{statement}
 use Rattle.sender.proofs.blockencoder.BlockEncoder.closes.Tie as tie
 
-returns : tie.Need-returns
-returns c = search needs
-
-add-t8 : tie.Need-add-t8
-add-t8 c = search needs
-
-is-last-requires : tie.Need-is-last-requires
-is-last-requires c κs = search needs
-
 returns-2 : tie.Need-returns-2
 unfolding last-of
 returns-2 c = rw (c .before .before .before .before .if1 .left, c .before .before .before .if2 .taken) (c .is-last .ensures)
@@ -20,4 +11,4 @@ returns-3 : tie.Need-returns-3
 returns-3 c = rw (c .before .if1 .left, c .if2 .left)
 
 pub closes-spec : {M : Type 1} → statement M
-closes-spec = tie.close (tie.spec returns add-t8 is-last-requires returns-2 returns-3)
+closes-spec = tie.close (tie.spec (λ c. search needs) (λ c. search needs) (λ c κs. search needs) returns-2 returns-3)

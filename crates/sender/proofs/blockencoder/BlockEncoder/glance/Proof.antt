@@ -10,9 +10,6 @@ use borrow.Author.Needs.{needs}
 use Rattle.sender.proofs.blockencoder.BlockEncoder.glance.Statement.{statement}
 use Rattle.sender.proofs.blockencoder.BlockEncoder.glance.Tie as tie
 
-place-requires : tie.Need-place-requires
-place-requires c κs = search needs
-
 mul-o : tie.Need-mul-o
 mul-o c = let s = c .before .before in let h = place-low (s .args .self) (s .pre) in let e = c .before .place .ensures in omega arith
 
@@ -49,13 +46,4 @@ unfolding glance-of
 returns-2 c = rw (sym (c .before .is-midway .ensures) ∙ c .if1 .left)
 
 pub glance-spec : {M : Type 1} → statement M
-glance-spec =
-    tie.close
-    (tie.spec
-    place-requires
-    mul-o
-    array-copy-out-o
-    is-midway-requires
-    shown-requires
-    returns
-    returns-2)
+glance-spec = tie.close (tie.spec (λ c κs. search needs) mul-o array-copy-out-o is-midway-requires shown-requires returns returns-2)

@@ -4,9 +4,6 @@ use borrow.Author.Needs.{needs}
 use Rattle.sender.proofs.blockencoder.BlockEncoder.has_room.Statement.{statement}
 use Rattle.sender.proofs.blockencoder.BlockEncoder.has_room.Tie as tie
 
-cast-result : tie.Need-cast-result
-cast-result c = search needs
-
 returns : tie.Need-returns
 unfolding has-room
 returns c = rw (lt-ltb _ _ (c .before .before .if1 .taken))
@@ -16,4 +13,4 @@ unfolding has-room
 returns-2 c = rw (le-ltb _ _ (c .if1 .left))
 
 pub has-room-spec : {M : Type 1} → statement M
-has-room-spec = tie.close (tie.spec cast-result returns returns-2)
+has-room-spec = tie.close (tie.spec (λ c. search needs) returns returns-2)

@@ -16,9 +16,6 @@ returns-2 : tie.Need-returns-2
 unfolding midway
 returns-2 c = rw (c .before .before .if1 .left, not-true (c .before .before .before .args .self .begun) (c .if2 .taken))
 
-has-room-requires : tie.Need-has-room-requires
-has-room-requires c κs = search needs
-
 returns-3 : tie.Need-returns-3
 unfolding midway
 returns-3 c =
@@ -34,9 +31,6 @@ returns-4 c =
     let s = y .before .before .before in
     rw (sym (u .before .has-room .ensures) ∙ u .if3 .left, eq-eqb _ _ (c .if4 .taken), y .before .before .if1 .left, not-false (s .args .self .begun) (y .if2 .left))
 
-is-empty-requires : tie.Need-is-empty-requires
-is-empty-requires c κs = search needs
-
 returns-5 : tie.Need-returns-5
 unfolding midway
 returns-5 c =
@@ -47,9 +41,6 @@ returns-5 c =
     let n = w .if4 .left in
     let e = visited-stuck (s .args .self) (omega arith) (s .args .o) (s .pre) true (sym (c .before .is-empty .ensures) ∙ c .if5 .taken) in
     rw (sym (u .before .has-room .ensures) ∙ u .if3 .left, ne-eqb _ _ n, e, y .before .before .if1 .left, not-false (s .args .self .begun) (y .if2 .left))
-
-cast-if6 : tie.Need-cast-if6
-cast-if6 c = search needs
 
 returns-6 : tie.Need-returns-6
 unfolding midway
@@ -62,15 +53,6 @@ returns-6 c =
     let n = w .if4 .left in
     let e = visited-stuck (s .args .self) (omega arith) (s .args .o) (s .pre) false (sym (b .before .is-empty .ensures) ∙ b .if5 .left) in
     rw (sym (u .before .has-room .ensures) ∙ u .if3 .left, ne-eqb _ _ n, e, lt-ltb _ _ (c .if6 .taken), y .before .before .if1 .left, not-false (s .args .self .begun) (y .if2 .left))
-
-cast-result : tie.Need-cast-result
-cast-result c = search needs
-
-add-result : tie.Need-add-result
-add-result c = search needs
-
-nb-source-symbols-requires : tie.Need-nb-source-symbols-requires
-nb-source-symbols-requires c κs = search needs
 
 returns-7 : tie.Need-returns-7
 unfolding midway
@@ -87,18 +69,6 @@ returns-7 c =
 
 pub is-midway-spec : {M : Type 1} → statement M
 is-midway-spec =
-    tie.close
-    (tie.spec
-    returns
-    returns-2
-    has-room-requires
-    returns-3
-    returns-4
-    is-empty-requires
-    returns-5
-    cast-if6
-    returns-6
-    cast-result
-    add-result
-    nb-source-symbols-requires
-    returns-7)
+    tie.close (tie.spec
+    returns returns-2 (λ c κs. search needs) returns-3 returns-4 (λ c κs. search needs) returns-5 (λ c. search needs) returns-6
+    (λ c. search needs) (λ c. search needs) (λ c κs. search needs) returns-7)

@@ -8,12 +8,6 @@ use borrow.Author.Needs.{needs}
 use Rattle.sender.proofs.blockencoder.BlockEncoder.offset.Statement.{statement}
 use Rattle.sender.proofs.blockencoder.BlockEncoder.offset.Tie as tie
 
-cast-k : tie.Need-cast-k
-cast-k c = search needs
-
-cast-n : tie.Need-cast-n
-cast-n c = search needs
-
 mul-result : tie.Need-mul-result
 mul-result c =
     let s = c .before .before .before .before .before .before in
@@ -122,17 +116,6 @@ returns-2 c = ap (λ f. (f + c .before .before .before .before .before .before .
 
 pub offset-spec : {M : Type 1} → statement M
 offset-spec =
-    tie.close
-    (tie.spec
-    cast-k
-    cast-n
-    mul-result
-    add-result
-    mul-result-2
-    returns
-    mul-result-3
-    mul-result-4
-    add-result-2
-    add-result-3
-    mul-result-5
-    returns-2)
+    tie.close (tie.spec
+    (λ c. search needs) (λ c. search needs) mul-result add-result mul-result-2 returns mul-result-3 mul-result-4 add-result-2 add-result-3
+    mul-result-5 returns-2)

@@ -6,9 +6,6 @@ use borrow.Author.Needs.{needs}
 use Rattle.sender.proofs.blockencoder.BlockEncoder.payload.Statement.{statement}
 use Rattle.sender.proofs.blockencoder.BlockEncoder.payload.Tie as tie
 
-offset-requires : tie.Need-offset-requires
-offset-requires c κs = search needs
-
 sub-rest : tie.Need-sub-rest
 sub-rest c =
     let s = c .before .before in
@@ -37,4 +34,4 @@ returns-2 c =
     rw (← c .before .before .offset .ensures, m)
 
 pub payload-spec : {M : Type 1} → statement M
-payload-spec = tie.close (tie.spec offset-requires sub-rest add-t13 returns returns-2)
+payload-spec = tie.close (tie.spec (λ c κs. search needs) sub-rest add-t13 returns returns-2)

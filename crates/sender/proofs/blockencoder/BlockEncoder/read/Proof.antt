@@ -1,5 +1,5 @@
 use mathlib.Core.Bool.{false}
-use Rattle.sender.specs.EncoderCalls.{Valid, Reads, ready-of, stuck, stopping-of, visit-of, moved-of, emptied-of}
+use Rattle.sender.specs.EncoderCalls.{ValidEncoder, Reads, ready-of, stuck, stopping-of, visit-of, moved-of, emptied-of}
 use Rattle.sender.specs.declared.blockencoder.Emitted.the-variants.{One}
 use Rattle.sender.specs.declared.blockencoder.BlockEncoder.{BlockEncoder}
 use Rattle.sender.specs.declared.blockencoder.Visit.{Visit}
@@ -24,9 +24,6 @@ returns c =
 ready-requires : tie.Need-ready-requires
 ready-requires c κs = valid-flags (c .before .before .before .before .args .self) (c .before .before .before .before .pre) (c .before .before .before .before .args .self .begun) (c .before .before .before .before .args .force)
 
-read-empty-requires : tie.Need-read-empty-requires
-read-empty-requires c κs = search needs
-
 returns-2 : tie.Need-returns-2
 returns-2 c =
     let s = c .before .before .before .before .before .before .before .before in
@@ -44,7 +41,7 @@ visit-requires c κs =
     let y = stopping-of f x in
     let v = valid-flags x (s .pre) (x .begun) f in
     let e = sym (c .before .before .ready .ensures) in
-    (subst Valid e (valid-ready y v), omega arith, subst (λ z. stuck z ≡ false) e (ready-free y v))
+    (subst ValidEncoder e (valid-ready y v), omega arith, subst (λ z. stuck z ≡ false) e (ready-free y v))
 
 moved-on-requires : tie.Need-moved-on-requires
 moved-on-requires c κs =
@@ -54,7 +51,7 @@ moved-on-requires c κs =
     let y = stopping-of f x in
     let v = valid-flags x (s .pre) (x .begun) f in
     let e = sym (c .before .before .before .before .ready .ensures) in
-    let u = subst Valid e (valid-ready y v) in
+    let u = subst ValidEncoder e (valid-ready y v) in
     let r = c .before .before .before .before .ready .result in
     let h = visit-fits f r u (let n = c .before .before .if2 .left in omega arith) (subst (λ z. stuck z ≡ false) e (ready-free y v)) in
     let w = c .before .visit .ensures in
@@ -76,13 +73,4 @@ returns-3 c =
     (read-means f x (s .pre))
 
 pub read-spec : {M : Type 1} → statement M
-read-spec =
-    tie.close
-    (tie.spec
-    returns
-    ready-requires
-    read-empty-requires
-    returns-2
-    visit-requires
-    moved-on-requires
-    returns-3)
+read-spec = tie.close (tie.spec returns ready-requires (λ c κs. search needs) returns-2 visit-requires moved-on-requires returns-3)

@@ -16,9 +16,6 @@ add-t6 c =
     let e = ap (λ p. p .blocks) (s .pre .0 .content .cut) in
     omega arith
 
-mul-t9 : tie.Need-mul-t9
-mul-t9 c = search needs
-
 element-set-from-x : tie.Need-element-set-from-x
 element-set-from-x c =
     let s = c .before .before in
@@ -26,12 +23,9 @@ element-set-from-x c =
     let n = s .pre .0 .narrow in
     omega arith
 
-add-x : tie.Need-add-x
-add-x c = search needs
-
 returns : tie.Need-returns
 unfolding one-opened
 returns c = refl
 
 pub read-block-spec : {M : Type 1} → statement M
-read-block-spec = tie.close (tie.spec add-t6 mul-t9 element-set-from-x add-x returns)
+read-block-spec = tie.close (tie.spec add-t6 (λ c. search needs) element-set-from-x (λ c. search needs) returns)

@@ -1,5 +1,5 @@
 use Rattle.sender.proofs.EncoderLaws.{missing, missing-less}
-use Rattle.sender.specs.EncoderCalls.{Valid, filled-of}
+use Rattle.sender.specs.EncoderCalls.{ValidEncoder, filled-of}
 use Rattle.sender.proofs.EncoderLaws.{valid-one, filled-more, filled-none}
 use mathlib.Core.Path.{_≡_, refl, sym, _∙_, ap, subst}
 use native.Mathlib.Omega.{arith}
@@ -8,7 +8,7 @@ use Rattle.sender.proofs.blockencoder.BlockEncoder.read_window.Statemen
 use Rattle.sender.proofs.blockencoder.BlockEncoder.read_window.Tie as tie
 
 abbrev Inv-loop : tie.InvT-loop
-Inv-loop x₀ x = Valid x × (filled-of x ≡ filled-of x₀)
+Inv-loop x₀ x = ValidEncoder x × (filled-of x ≡ filled-of x₀)
 
 abbrev μ-loop : tie.MeasureT-loop
 μ-loop x₀ x = missing x
@@ -32,7 +32,7 @@ loop-again : tie.Need-loop-again Inv-loop μ-loop
 loop-again c =
     let y = c .before .before .before .loop in
     let h = sym (c .before .before .has-room .ensures) ∙ c .before .if1 .taken in
-    (subst Valid (sym (c .read-block .ensures)) (valid-one (y .x) (y .inv .0) h), ap filled-of (c .read-block .ensures) ∙ filled-more (y .x) h ∙ y .inv .1)
+    (subst ValidEncoder (sym (c .read-block .ensures)) (valid-one (y .x) (y .inv .0) h), ap filled-of (c .read-block .ensures) ∙ filled-more (y .x) h ∙ y .inv .1)
 
 returns : tie.Need-returns Inv-loop μ-loop
 returns c =
@@ -40,14 +40,4 @@ returns c =
     sym (filled-none (y .x) (sym (c .before .has-room .ensures) ∙ c .if1 .left)) ∙ y .inv .1
 
 pub read-window-spec : {M : Type 1} → statement M
-read-window-spec =
-    tie.close
-    (tie.spec
-    Inv-loop
-    μ-loop
-    loop-holds
-    has-room-requires
-    read-block-requires
-    loop-less
-    loop-again
-    returns)
+read-window-spec = tie.close (tie.spec Inv-loop μ-loop loop-holds has-room-requires read-block-requires loop-less loop-again returns)

@@ -1,5 +1,5 @@
 use Rattle.sender.proofs.EncoderViews.{stuck-some}
-use Rattle.sender.specs.EncoderCalls.{Valid, settled, filled-of, drained-count, ready-of}
+use Rattle.sender.specs.EncoderCalls.{ValidEncoder, settled, filled-of, drained-count, ready-of}
 use Rattle.sender.proofs.EncoderLaws.{valid-filled, valid-without}
 use Rattle.sender.proofs.EncoderCounts.{count-less, valid-next, settled-more, settled-end}
 use mathlib.Core.Path.{_≡_, refl, sym, _∙_, ap, subst}
@@ -9,7 +9,7 @@ use Rattle.sender.proofs.blockencoder.BlockEncoder.ready.Statement.{sta
 use Rattle.sender.proofs.blockencoder.BlockEncoder.ready.Tie as tie
 
 abbrev Inv-loop : tie.InvT-loop
-Inv-loop x₀ x = Valid x × (settled (drained-count x) x ≡ settled (drained-count x₀) x₀)
+Inv-loop x₀ x = ValidEncoder x × (settled (drained-count x) x ≡ settled (drained-count x₀) x₀)
 
 abbrev μ-loop : tie.MeasureT-loop
 μ-loop x₀ x = drained-count x
@@ -18,7 +18,7 @@ read-window-requires : tie.Need-read-window-requires Inv-loop μ-loop
 read-window-requires c κs = search needs
 
 loop-holds : tie.Need-loop-holds Inv-loop μ-loop
-loop-holds c = (subst Valid (sym (c .read-window .ensures)) (valid-filled (c .before .args .self) (c .before .pre)), refl)
+loop-holds c = (subst ValidEncoder (sym (c .read-window .ensures)) (valid-filled (c .before .args .self) (c .before .pre)), refl)
 
 is-stuck-requires : tie.Need-is-stuck-requires Inv-loop μ-loop
 is-stuck-requires c κs = search needs
@@ -29,7 +29,7 @@ without-requires c κs = (c .before .before .loop .inv .0, stuck-some (c .before
 read-window-requires-2 : tie.Need-read-window-requires-2 Inv-loop μ-loop
 read-window-requires-2 c κs =
     let y = c .before .before .before .loop in
-    subst Valid (sym (c .without .ensures)) (valid-without (y .x) (y .inv .0) (stuck-some (y .x) (sym (c .before .before .is-stuck .ensures) ∙ c .before .if1 .taken)))
+    subst ValidEncoder (sym (c .without .ensures)) (valid-without (y .x) (y .inv .0) (stuck-some (y .x) (sym (c .before .before .is-stuck .ensures) ∙ c .before .if1 .taken)))
 
 loop-less : tie.Need-loop-less Inv-loop μ-loop
 loop-less c =
@@ -44,7 +44,7 @@ loop-again c =
     let y = c .before .before .before .before .loop in
     let e = c .read-window2 .ensures ∙ ap filled-of (c .before .without .ensures) in
     let t = sym (c .before .before .before .is-stuck .ensures) ∙ c .before .before .if1 .taken in
-    (subst Valid (sym e) (valid-next (y .x) (y .inv .0) t), ap (λ x. settled (drained-count x) x) e ∙ sym (settled-more (y .x) (y .inv .0) t) ∙ y .inv .1)
+    (subst ValidEncoder (sym e) (valid-next (y .x) (y .inv .0) t), ap (λ x. settled (drained-count x) x) e ∙ sym (settled-more (y .x) (y .inv .0) t) ∙ y .inv .1)
 
 returns : tie.Need-returns Inv-loop μ-loop
 unfolding ready-of
@@ -54,15 +54,5 @@ returns c =
 
 pub ready-spec : {M : Type 1} → statement M
 ready-spec =
-    tie.close
-    (tie.spec
-    Inv-loop
-    μ-loop
-    read-window-requires
-    loop-holds
-    is-stuck-requires
-    without-requires
-    read-window-requires-2
-    loop-less
-    loop-again
-    returns)
+    tie.close (tie.spec
+    Inv-loop μ-loop read-window-requires loop-holds is-stuck-requires without-requires read-window-requires-2 loop-less loop-again returns)

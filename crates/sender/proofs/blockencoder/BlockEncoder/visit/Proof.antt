@@ -7,6 +7,7 @@ use mathlib.Core.Path.{_≡_, sym, subst}
 use Prim.Native.Nat.{_<_, _≤_}
 use native.Mathlib.Omega.{arith}
 use borrow.Author.Needs.{needs}
+use Rattle.sizes.specs.Limits.{largest-block}
 use Rattle.sender.proofs.blockencoder.BlockEncoder.visit.Statement.{statement}
 use Rattle.sender.proofs.blockencoder.BlockEncoder.visit.Tie as tie
 
@@ -27,7 +28,7 @@ closes-requires c κs =
     let h = place-inside x (s .pre .1) in (
       s .pre .0,
       subst (λ i. i < x .filled) e h,
-      subst (λ i. open-at x i .esi .0 ≤ 65535) e (esi-small (x .content) (s .pre .0 .content) (open-at x _) (s .pre .0 .each _ h)),
+      subst (λ i. open-at x i .esi .0 ≤ largest-block) e (esi-small (x .content) (s .pre .0 .content) (open-at x _) (s .pre .0 .each _ h)),
     )
 
 shown-requires : tie.Need-shown-requires

@@ -7,25 +7,10 @@ use borrow.Author.Needs.{needs}
 use Rattle.sender.proofs.fdtsession.FdtSession.attempt.Statement.{statement}
 use Rattle.sender.proofs.fdtsession.FdtSession.attempt.Tie as tie
 
-send-requires : tie.Need-send-requires
-send-requires c κs = search needs
-
 returns : tie.Need-returns
 returns c =
     let s = c .before .before .args in
     c .send .ensures ∙ attempted-busy (s .width) (s .now) (s .draft) (s .taken) (s .fdt) (s .self) (c .before .if1 .taken)
-
-left-draft-requires : tie.Need-left-draft-requires
-left-draft-requires c κs = search needs
-
-get-next-fdt-transfer-requires : tie.Need-get-next-fdt-transfer-requires
-get-next-fdt-transfer-requires c κs = search needs
-
-either-requires : tie.Need-either-requires
-either-requires c κs = search needs
-
-begin-requires : tie.Need-begin-requires
-begin-requires c κs = search needs
 
 send-requires-2 : tie.Need-send-requires-2
 send-requires-2 c κs =
@@ -68,15 +53,6 @@ returns-3 c =
 
 pub attempt-spec : {M : Type 1} → statement M
 attempt-spec =
-    tie.close
-    (tie.spec
-    send-requires
-    returns
-    left-draft-requires
-    get-next-fdt-transfer-requires
-    either-requires
-    begin-requires
-    send-requires-2
-    returns-2
-    send-requires-3
-    returns-3)
+    tie.close (tie.spec
+    (λ c κs. search needs) returns (λ c κs. search needs) (λ c κs. search needs) (λ c κs. search needs) (λ c κs. search needs) send-requires-2
+    returns-2 send-requires-3 returns-3)

@@ -3,12 +3,9 @@ use borrow.Author.Needs.{needs}
 use Rattle.sender.proofs.fdtsession.FdtSession.begin.Statement.{statement}
 use Rattle.sender.proofs.fdtsession.FdtSession.begin.Tie as tie
 
-new-requires : tie.Need-new-requires
-new-requires c κs = search needs
-
 returns : tie.Need-returns
 unfolding fdt-begun-of
 returns c = rw (c .new .ensures)
 
 pub begin-spec : {M : Type 1} → statement M
-begin-spec = tie.close (tie.spec new-requires returns)
+begin-spec = tie.close (tie.spec (λ c κs. search needs) returns)

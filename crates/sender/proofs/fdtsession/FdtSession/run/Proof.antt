@@ -1,15 +1,12 @@
 use mathlib.Core.Logic.{⊎-elim}
 use denote.Enum.Declared.{tagOf}
-use Rattle.sender.proofs.sendersession.Served.{the-type}
+use Rattle.sender.proofs.sendersession.Outcome.{the-type}
 use Rattle.sender.proofs.FdtSessionLaws.{round-tries, ran-over, ran-once}
 use mathlib.Core.Path.{ap}
 use native.Mathlib.Omega.{arith}
 use borrow.Author.Needs.{needs}
 use Rattle.sender.proofs.fdtsession.FdtSession.run.Statement.{statement}
 use Rattle.sender.proofs.fdtsession.FdtSession.run.Tie as tie
-
-attempt-requires : tie.Need-attempt-requires
-attempt-requires c κs = search needs
 
 enum-told : tie.Need-enum-told
 enum-told c = search needs
@@ -34,4 +31,4 @@ returns-2 c =
     (λ e. let t = ap (tagOf the-type) e in ⊎-elim (λ k. omega arith) (λ k. omega arith) (c .match .keys2))
 
 pub run-spec : {M : Type 1} → statement M
-run-spec = tie.close (tie.spec attempt-requires enum-told attempt-requires-2 returns returns-2)
+run-spec = tie.close (tie.spec (λ c κs. search needs) enum-told attempt-requires-2 returns returns-2)

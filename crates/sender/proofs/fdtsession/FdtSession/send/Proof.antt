@@ -10,17 +10,8 @@ returns c = let s = c .before .before .args in sent-none (s .now) (s .taken) (s 
 read-requires : tie.Need-read-requires
 read-requires c κs = c .before .before .pre .busy (not-false _ (c .if1 .left))
 
-enum-known-answer : tie.Need-enum-known-answer
-enum-known-answer c = search needs
-
 enum-told : tie.Need-enum-told
 enum-told c = search needs
-
-fdt-transfer-done-requires : tie.Need-fdt-transfer-done-requires
-fdt-transfer-done-requires c κs = search needs
-
-idle-requires : tie.Need-idle-requires
-idle-requires c κs = search needs
 
 returns-2 : tie.Need-returns-2
 returns-2 c =
@@ -37,14 +28,4 @@ returns-3 c =
     sent-one (s .now) (s .taken) (s .fdt) (s .self) (not-false _ (b .before .if1 .left)) (r .result) (r .ensures .exact) _ (c .before .before .answer .given .1)
 
 pub send-spec : {M : Type 1} → statement M
-send-spec =
-    tie.close
-    (tie.spec
-    returns
-    read-requires
-    enum-known-answer
-    enum-told
-    fdt-transfer-done-requires
-    idle-requires
-    returns-2
-    returns-3)
+send-spec = tie.close (tie.spec returns read-requires (λ c. search needs) enum-told (λ c κs. search needs) (λ c κs. search needs) returns-2 returns-3)

@@ -2,8 +2,7 @@ use borrow.Author.Tests.{not-true, not-false}
 use Rattle.lifecycle.specs.FdtCalls.{added-of}
 use Rattle.lifecycle.specs.declared.fdt.Request.{Request}
 use Rattle.lifecycle.specs.declared.fdt.Added.{Added}
-use Rattle.sender.specs.SenderCalls.{with-list, admission-said, Adds}
-use Rattle.sender.specs.declared.sender.AddAnswer.{AddAnswer}
+use Rattle.sender.specs.SenderCalls.{with-list, Adds}
 use Rattle.sender.specs.declared.sender.Sender.{Sender}
 use Rattle.sender.specs.declared.sender.Adding.{Adding}
 use Rattle.sender.proofs.SenderKept.{adds, add-refused, add-goes}
@@ -12,48 +11,23 @@ use borrow.Author.Needs.{needs}
 use Rattle.sender.proofs.sender.Sender.add.Statement.{statement}
 use Rattle.sender.proofs.sender.Sender.add.Tie as tie
 
-has-priority-requires : tie.Need-has-priority-requires
-has-priority-requires c κs = search needs
-
 returns : tie.Need-returns
 returns c =
     let s = c .before .before in
     let a = s .args in
     subst (Adds (a .o) (a .named) (a .self)) (add-refused (a .o) (a .named) (a .self) (sym (c .before .has-priority .ensures) ∙ not-true _ (c .if1 .taken))) (adds (a .self) (s .pre) (a .o) (a .named))
 
-request-requires : tie.Need-request-requires
-request-requires c κs = search needs
-
-add-object-requires : tie.Need-add-object-requires
-add-object-requires c κs = search needs
-
-with-fdt-requires : tie.Need-with-fdt-requires
-with-fdt-requires c κs = search needs
-
-add-answer-requires : tie.Need-add-answer-requires
-add-answer-requires c κs = search needs
-
 returns-2 : tie.Need-returns-2
 returns-2 c =
-    let s = c .before .before .before .before .before .before in
+    let s = c .before .before .before .before .before in
     let a = s .args in
-    let r = c .before .before .add-object .result in
-    let e = c .before .before .add-object .ensures ∙ ap (λ (q : Request). added-of (a .self .fdt) q (a .named)) (c .before .before .before .request .ensures) in
-    let g : Added → Adding = λ y. record { answer = admission-said (y .answer); sender = with-list (a .self) (y .fdt) } in
-    let h : Sender → Adding = λ x. record { answer = admission-said (r .answer); sender = x } in
-    let k : AddAnswer → Adding = λ y. record { answer = y; sender = c .before .with-fdt .result } in
+    let r = c .before .add-object .result in
+    let e = c .before .add-object .ensures ∙ ap (λ (q : Request). added-of (a .self .fdt) q (a .named)) (c .before .before .request .ensures) in
+    let g : Added → Adding = λ y. record { answer = y .answer; sender = with-list (a .self) (y .fdt) } in
+    let h : Sender → Adding = λ x. record { answer = r .answer; sender = x } in
     subst (Adds (a .o) (a .named) (a .self))
-    (add-goes (a .o) (a .named) (a .self) (sym (c .before .before .before .before .before .has-priority .ensures) ∙ not-false _ (c .before .before .before .before .if1 .left)) ∙ ap g (sym e) ∙ ap h (sym (c .before .with-fdt .ensures)) ∙ ap k (sym (c .add-answer .ensures)))
+    (add-goes (a .o) (a .named) (a .self) (sym (c .before .before .before .before .has-priority .ensures) ∙ not-false _ (c .before .before .before .if1 .left)) ∙ ap g (sym e) ∙ ap h (sym (c .with-fdt .ensures)))
     (adds (a .self) (s .pre) (a .o) (a .named))
 
 pub add-spec : {M : Type 1} → statement M
-add-spec =
-    tie.close
-    (tie.spec
-    has-priority-requires
-    returns
-    request-requires
-    add-object-requires
-    with-fdt-requires
-    add-answer-requires
-    returns-2)
+add-spec = tie.close (tie.spec (λ c κs. search needs) returns (λ c κs. search needs) (λ c κs. search needs) (λ c κs. search needs) returns-2)

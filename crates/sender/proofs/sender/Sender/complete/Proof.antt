@@ -5,11 +5,8 @@ use borrow.Author.Needs.{needs}
 use Rattle.sender.proofs.sender.Sender.complete.Statement.{statement}
 use Rattle.sender.proofs.sender.Sender.complete.Tie as tie
 
-set-complete-requires : tie.Need-set-complete-requires
-set-complete-requires c κs = search needs
-
 returns : tie.Need-returns
 returns c = let s = c .before in subst (Completes (s .args .self)) (sym (ap (with-list (s .args .self)) (c .set-complete .ensures))) (completes (s .args .self) (s .pre))
 
 pub complete-spec : {M : Type 1} → statement M
-complete-spec = tie.close (tie.spec set-complete-requires returns)
+complete-spec = tie.close (tie.spec (λ c κs. search needs) returns)

@@ -1,5 +1,6 @@
 use lib.ListN.{length, take, drop}
 use Rattle.sizes.specs.Words.{any}
+use Rattle.sizes.specs.Limits.{most-sessions}
 use Rattle.sizes.proofs.Arrays.{any-hit, any-miss, any-end}
 use Rattle.sender.specs.SenderCalls.{has-priority}
 use mathlib.Core.Path.{_≡_, refl, sym, _∙_}
@@ -11,7 +12,7 @@ use Rattle.sender.proofs.sender.Sender.has_priority.Statement.{statemen
 use Rattle.sender.proofs.sender.Sender.has_priority.Tie as tie
 
 abbrev Inv-loop : tie.InvT-loop
-Inv-loop priority n sessions i₀ i = (long : n ≤ length sessions) × (i ≤ n) × (n ≤ 4) × (any (has-priority priority) (drop i (take n sessions)) ≡ any (has-priority priority) (take n sessions))
+Inv-loop priority n sessions i₀ i = (long : n ≤ length sessions) × (i ≤ n) × (n ≤ most-sessions) × (any (has-priority priority) (drop i (take n sessions)) ≡ any (has-priority priority) (take n sessions))
 
 abbrev μ-loop : tie.MeasureT-loop
 μ-loop priority n sessions i₀ i = n - i
@@ -53,16 +54,4 @@ returns-2 c =
     sym (any-end (has-priority (a .priority)) (a .self .count) (a .self .sessions) (l .inv .0) (l .i) (omega arith)) ∙ l .inv .3
 
 pub has-priority-spec : {M : Type 1} → statement M
-has-priority-spec =
-    tie.close
-    (tie.spec
-    Inv-loop
-    μ-loop
-    loop-holds
-    mul-if1
-    element-copy-out-if1
-    returns
-    add-i
-    loop-less
-    loop-again
-    returns-2)
+has-priority-spec = tie.close (tie.spec Inv-loop μ-loop loop-holds mul-if1 element-copy-out-if1 returns add-i loop-less loop-again returns-2)

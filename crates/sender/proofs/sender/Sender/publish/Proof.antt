@@ -8,12 +8,6 @@ use borrow.Author.Needs.{needs}
 use Rattle.sender.proofs.sender.Sender.publish.Statement.{statement}
 use Rattle.sender.proofs.sender.Sender.publish.Tie as tie
 
-publish-requires : tie.Need-publish-requires
-publish-requires c κs = search needs
-
-with-fdt-requires : tie.Need-with-fdt-requires
-with-fdt-requires c κs = search needs
-
 returns : tie.Need-returns
 unfolding publishing-of
 returns c =
@@ -24,4 +18,4 @@ returns c =
     subst (Publishes (a .now) (a .part) (a .self)) (sym (ap g (c .before .publish .ensures)) ∙ ap h (sym (c .with-fdt .ensures))) (publishes (a .self) (s .pre) (a .now) (a .part))
 
 pub publish-spec : {M : Type 1} → statement M
-publish-spec = tie.close (tie.spec publish-requires with-fdt-requires returns)
+publish-spec = tie.close (tie.spec (λ c κs. search needs) (λ c κs. search needs) returns)

@@ -8,12 +8,6 @@ use borrow.Author.Needs.{needs}
 use Rattle.sender.proofs.sender.Sender.release.Statement.{statement}
 use Rattle.sender.proofs.sender.Sender.release.Tie as tie
 
-release-toi-requires : tie.Need-release-toi-requires
-release-toi-requires c κs = search needs
-
-with-fdt-requires : tie.Need-with-fdt-requires
-with-fdt-requires c κs = search needs
-
 returns : tie.Need-returns
 unfolding releasing-of
 returns c =
@@ -24,4 +18,4 @@ returns c =
     subst (Releases (a .toi) (a .self)) (sym (ap g (c .before .release-toi .ensures)) ∙ ap h (sym (c .with-fdt .ensures))) (releases (a .self) (s .pre) (a .toi))
 
 pub release-spec : {M : Type 1} → statement M
-release-spec = tie.close (tie.spec release-toi-requires with-fdt-requires returns)
+release-spec = tie.close (tie.spec (λ c κs. search needs) (λ c κs. search needs) returns)

@@ -8,12 +8,6 @@ use borrow.Author.Needs.{needs}
 use Rattle.sender.proofs.sender.Sender.reserve.Statement.{statement}
 use Rattle.sender.proofs.sender.Sender.reserve.Tie as tie
 
-allocate-toi-requires : tie.Need-allocate-toi-requires
-allocate-toi-requires c κs = search needs
-
-with-fdt-requires : tie.Need-with-fdt-requires
-with-fdt-requires c κs = search needs
-
 returns : tie.Need-returns
 unfolding reserving-of
 returns c =
@@ -24,4 +18,4 @@ returns c =
     subst (Reserves (a .self)) (sym (ap g (c .before .allocate-toi .ensures)) ∙ ap h (sym (c .with-fdt .ensures))) (reserves (a .self) (s .pre))
 
 pub reserve-spec : {M : Type 1} → statement M
-reserve-spec = tie.close (tie.spec allocate-toi-requires with-fdt-requires returns)
+reserve-spec = tie.close (tie.spec (λ c κs. search needs) (λ c κs. search needs) returns)

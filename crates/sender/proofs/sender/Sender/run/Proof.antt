@@ -30,9 +30,6 @@ run-requires c κs =
     let a = s .args in
     subst (Runs (a .self .fdt) (a .self .window)) (sym (c .session-at .ensures)) (runs-ready (a .self) (a .i) (s .pre) (c .before .if1 .left))
 
-with-fdt-requires : tie.Need-with-fdt-requires
-with-fdt-requires c κs = search needs
-
 with-session-requires : tie.Need-with-session-requires
 with-session-requires c κs = let v = c .before .before .before .before .pre .few in let h = c .before .before .before .if1 .left in omega arith
 
@@ -43,9 +40,6 @@ toi-at-requires c κs =
     let a = s .args in
     let e = ap (ran-of (a .self .window) (a .now) (a .self .fdt)) (sym (b .before .session-at .ensures)) ∙ sym (b .run .ensures) in
     subst (λ r. r .session .slot < object-slots) e (ran-slot (a .self) (a .i) (a .now) (s .pre) (b .before .before .if1 .left))
-
-run-answer-requires : tie.Need-run-answer-requires
-run-answer-requires c κs = search needs
 
 returns-2 : tie.Need-returns-2
 returns-2 c =
@@ -65,13 +59,5 @@ returns-2 c =
 
 pub run-spec : {M : Type 1} → statement M
 run-spec =
-    tie.close
-    (tie.spec
-    returns
-    session-at-requires
-    run-requires
-    with-fdt-requires
-    with-session-requires
-    toi-at-requires
-    run-answer-requires
-    returns-2)
+    tie.close (tie.spec
+    returns session-at-requires run-requires (λ c κs. search needs) with-session-requires toi-at-requires (λ c κs. search needs) returns-2)

@@ -13,18 +13,6 @@ use borrow.Author.Needs.{needs}
 use Rattle.sender.proofs.sender.Sender.run_fdt.Statement.{statement}
 use Rattle.sender.proofs.sender.Sender.run_fdt.Tie as tie
 
-real-draft-requires : tie.Need-real-draft-requires
-real-draft-requires c κs = search needs
-
-test-draft-requires : tie.Need-test-draft-requires
-test-draft-requires c κs = search needs
-
-is-bad-requires : tie.Need-is-bad-requires
-is-bad-requires c κs = search needs
-
-draft-answer-requires : tie.Need-draft-answer-requires
-draft-answer-requires c κs = search needs
-
 returns : tie.Need-returns
 returns c =
     let s = c .before .before .before .before .before in
@@ -42,15 +30,6 @@ run-requires c κs =
     let e = c .before .before .test-draft .ensures ∙ ap (λ (d : Draft). draft-test-of d (a .self .fdt)) d in
     let n = looked-at (a .draft) (a .self) (c .before .before .test-draft .result) e (sym (c .before .is-bad .ensures) ∙ c .if1 .left) in
     subst (λ (d : Draft). FdtTries (a .self .fdt) (a .self .window) d (a .self .«fdt_session»)) (sym d) (tries-ready (a .self) (a .draft) (s .pre) n)
-
-with-fdt-requires : tie.Need-with-fdt-requires
-with-fdt-requires c κs = search needs
-
-with-fdt-session-requires : tie.Need-with-fdt-session-requires
-with-fdt-session-requires c κs = search needs
-
-run-answer-requires : tie.Need-run-answer-requires
-run-answer-requires c κs = search needs
 
 returns-2 : tie.Need-returns-2
 returns-2 c =
@@ -71,15 +50,6 @@ returns-2 c =
 
 pub run-fdt-spec : {M : Type 1} → statement M
 run-fdt-spec =
-    tie.close
-    (tie.spec
-    real-draft-requires
-    test-draft-requires
-    is-bad-requires
-    draft-answer-requires
-    returns
-    run-requires
-    with-fdt-requires
-    with-fdt-session-requires
-    run-answer-requires
-    returns-2)
+    tie.close (tie.spec
+    (λ c κs. search needs) (λ c κs. search needs) (λ c κs. search needs) (λ c κs. search needs) returns run-requires (λ c κs. search needs)
+    (λ c κs. search needs) (λ c κs. search needs) returns-2)

@@ -8,18 +8,9 @@ returns : tie.Need-returns
 unfolding served-of
 returns c = rw (c .if1 .taken)
 
-is-early-requires : tie.Need-is-early-requires
-is-early-requires c κs = search needs
-
 returns-2 : tie.Need-returns-2
 unfolding served-of
 returns-2 c = rw (c .before .before .before .if1 .left, sym (c .before .is-early .ensures) ∙ c .if2 .taken)
-
-read-requires : tie.Need-read-requires
-read-requires c κs = search needs
-
-enum-known-answer : tie.Need-enum-known-answer
-enum-known-answer c = search needs
 
 enum-told : tie.Need-enum-told
 enum-told c = search needs
@@ -31,9 +22,6 @@ returns-3 c =
     let r = b .read .ensures in
     rw (b .before .before .before .before .if1 .left, sym (b .before .before .is-early .ensures) ∙ b .before .if2 .left, ap (λ z. z .answer) (sym (r .exact)) ∙ c .enum-told .given .1)
 
-ticked-requires : tie.Need-ticked-requires
-ticked-requires c κs = search needs
-
 returns-4 : tie.Need-returns-4
 unfolding served-of
 returns-4 c =
@@ -43,14 +31,5 @@ returns-4 c =
 
 pub serve-spec : {M : Type 1} → statement M
 serve-spec =
-    tie.close
-    (tie.spec
-    returns
-    is-early-requires
-    returns-2
-    read-requires
-    enum-known-answer
-    enum-told
-    returns-3
-    ticked-requires
-    returns-4)
+    tie.close (tie.spec
+    returns (λ c κs. search needs) returns-2 (λ c κs. search needs) (λ c. search needs) enum-told returns-3 (λ c κs. search needs) returns-4)

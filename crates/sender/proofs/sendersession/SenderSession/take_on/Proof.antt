@@ -3,17 +3,11 @@ use Prim.Native.Nat.{_<_}
 use borrow.Author.Needs.{needs}
 use Rattle.sizes.specs.Limits.{object-slots}
 use Rattle.lifecycle.specs.FdtCalls.{taken-of}
-use Rattle.lifecycle.specs.declared.slots.Place.the-variants.{At}
+use Rattle.sizes.specs.declared.place.Place.the-variants.{At}
 use Rattle.sender.specs.SessionCalls.{taken-on-of}
 use Rattle.sender.proofs.SessionLaws.{taken-inside, ready-begun}
 use Rattle.sender.proofs.sendersession.SenderSession.take_on.Statement.{statement}
 use Rattle.sender.proofs.sendersession.SenderSession.take_on.Tie as tie
-
-get-next-file-transfer-requires : tie.Need-get-next-file-transfer-requires
-get-next-file-transfer-requires c κs = search needs
-
-enum-known-answer : tie.Need-enum-known-answer
-enum-known-answer c = search needs
 
 enum-told : tie.Need-enum-told
 enum-told c = search needs
@@ -31,32 +25,21 @@ in-list c =
     let s = c .before .before .before .before .before in
     taken-inside (s .args .fdt) (s .pre .0 .valid) (s .args .self .priority) (s .args .now) _ (found c)
 
-file-at-requires : tie.Need-file-at-requires
-file-at-requires c κs = in-list c
-
-begin-requires : tie.Need-begin-requires
-begin-requires c κs = search needs
+slot-at-requires : tie.Need-slot-at-requires
+slot-at-requires c κs = in-list c
 
 attend-requires : tie.Need-attend-requires
 attend-requires c κs =
     let s = c .before .before .before .before .before .before .before in
     let a = s .args in
-    rw (c .begin .ensures, c .before .file-at .ensures, c .before .before .before .before .before .before .get-next-file-transfer .ensures) (ready-begun (a .fdt) (s .pre .0) (a .width) (a .self .priority) (a .now) _ (s .pre .1) (found (c .before .before)))
+    rw (c .begin .ensures, c .before .slot-at .ensures, c .before .before .before .before .before .before .get-next-file-transfer .ensures) (ready-begun (a .fdt) (s .pre .0) (a .width) (a .self .priority) (a .now) _ (s .pre .1) (found (c .before .before)))
 
 returns-2 : tie.Need-returns-2
 unfolding taken-on-of
 returns-2 c =
-    rw (c .attend .ensures, c .before .begin .ensures, c .before .before .file-at .ensures, ← c .before .before .before .before .before .before .before .get-next-file-transfer .ensures, c .before .before .before .before .answer .given .1)
+    rw (c .attend .ensures, c .before .begin .ensures, c .before .before .slot-at .ensures, ← c .before .before .before .before .before .before .before .get-next-file-transfer .ensures, c .before .before .before .before .answer .given .1)
 
 pub take-on-spec : {M : Type 1} → statement M
 take-on-spec =
-    tie.close
-    (tie.spec
-    get-next-file-transfer-requires
-    enum-known-answer
-    enum-told
-    returns
-    file-at-requires
-    begin-requires
-    attend-requires
-    returns-2)
+    tie.close (tie.spec
+    (λ c κs. search needs) (λ c. search needs) enum-told returns slot-at-requires (λ c κs. search needs) attend-requires returns-2)

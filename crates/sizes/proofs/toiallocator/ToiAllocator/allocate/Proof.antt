@@ -11,9 +11,6 @@ returns c =
     let s = c .before .before in
     gives (s .args .self) (s .args .loose) _ (s .pre) (full-by (s .args .self) (s .args .loose) (c .if1 .taken))
 
-with-next-requires : tie.Need-with-next-requires
-with-next-requires c κs = search needs
-
 next-free-requires : tie.Need-next-free-requires
 next-free-requires c κs =
     let s = c .before .before .before in
@@ -25,4 +22,4 @@ returns-2 c =
     gives (s .args .self) (s .args .loose) _ (s .pre) (given-by (s .args .self) (s .args .loose) (c .before .before .with-next .result) (c .before .next-free .result) (omega arith) (c .before .before .with-next .ensures) (c .before .next-free .ensures))
 
 pub allocate-spec : {M : Type 1} → statement M
-allocate-spec = tie.close (tie.spec returns with-next-requires next-free-requires returns-2)
+allocate-spec = tie.close (tie.spec returns (λ c κs. search needs) next-free-requires returns-2)

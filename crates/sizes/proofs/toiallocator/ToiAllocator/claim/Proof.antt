@@ -3,7 +3,7 @@ use native.Mathlib.Omega.{arith}
 use borrow.Author.Needs.{needs}
 use Rattle.sizes.specs.Allocator.{bound-at}
 use Rattle.sizes.proofs.AllocatorLaws.{found-inside, claimed-some, claimed-none, becomes, valid-claimed}
-use Rattle.sizes.specs.Allocator.{place-said}
+use Rattle.sizes.specs.Place.{place-said}
 use mathlib.Core.Bool.{true}
 use Rattle.sizes.proofs.toiallocator.ToiAllocator.claim.Statement.{statement}
 use Rattle.sizes.proofs.toiallocator.ToiAllocator.claim.Tie as tie

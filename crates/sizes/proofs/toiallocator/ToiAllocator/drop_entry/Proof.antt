@@ -1,9 +1,9 @@
 use mathlib.Core.Path.{sym, _∙_, ap}
 use native.Mathlib.Omega.{arith}
 use borrow.Author.Needs.{needs}
-use Rattle.sizes.specs.Allocator.{without}
+use Rattle.sizes.specs.Allocator.{entry-gone}
 use Rattle.sizes.proofs.AllocatorLaws.{found-inside, dropped-some, dropped-none, becomes, valid-dropped}
-use Rattle.sizes.specs.Allocator.{place-said}
+use Rattle.sizes.specs.Place.{place-said}
 use Rattle.sizes.proofs.toiallocator.ToiAllocator.drop_entry.Statement.{statement}
 use Rattle.sizes.proofs.toiallocator.ToiAllocator.drop_entry.Tie as tie
 
@@ -36,7 +36,7 @@ sub-t11 c =
     let h = found-inside (s .args .self) (s .args .toi) (s .args .loose) _ p in omega arith
 
 returns-2 : tie.Need-returns-2
-unfolding without
+unfolding entry-gone
 returns-2 c = let s = c .before .before .before .before .before .before in
     let p = sym (c .before .before .before .before .before .find .ensures) ∙ ap place-said (c .before .before .before .at .given .1) in
     becomes _ _ (rw (c .closed .ensures) (sym (dropped-some (s .args .self) (s .args .loose) (s .args .toi) _ p))) (valid-dropped (s .args .self) (s .pre) (s .args .loose) (s .args .toi))

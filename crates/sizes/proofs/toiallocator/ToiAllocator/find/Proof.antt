@@ -56,17 +56,4 @@ returns-2 c =
     sym (place-end (entry-is (l .before .args .toi) (l .before .args .loose)) (a .entered) (a .entries) (l .loop .inv .0) (l .loop .i) (omega arith)) ∙ l .loop .inv .2
 
 pub find-spec : {M : Type 1} → statement M
-find-spec =
-    tie.close
-    (tie.spec
-    Inv-loop
-    μ-loop
-    loop-holds
-    mul-e
-    element-copy-out-e
-    is-entry-requires
-    returns
-    add-i
-    loop-less
-    loop-again
-    returns-2)
+find-spec = tie.close (tie.spec Inv-loop μ-loop loop-holds mul-e element-copy-out-e is-entry-requires returns add-i loop-less loop-again returns-2)

@@ -53,16 +53,4 @@ returns-2 c =
     sym (l .loop .inv .2 ∙ any-end (λ (e : Entry). eqb (e .toi) (l .before .args .toi)) (a .entered) (a .entries) (l .loop .inv .0) (l .loop .i) (omega arith))
 
 pub has-entry-spec : {M : Type 1} → statement M
-has-entry-spec =
-    tie.close
-    (tie.spec
-    Inv-loop
-    μ-loop
-    loop-holds
-    mul-if1
-    element-copy-out-if1
-    returns
-    add-i
-    loop-less
-    loop-again
-    returns-2)
+has-entry-spec = tie.close (tie.spec Inv-loop μ-loop loop-holds mul-if1 element-copy-out-if1 returns add-i loop-less loop-again returns-2)

@@ -1,19 +1,14 @@
 use mathlib.Core.Path.{sym, _∙_, ap}
 use borrow.Author.Needs.{needs}
 use Rattle.sizes.specs.Words.{given}
-use Rattle.sizes.specs.Allocator.{place-said, noted}
+use Rattle.sizes.specs.Place.{place-said}
+use Rattle.sizes.specs.Allocator.{noted}
 use Rattle.sizes.proofs.AllocatorLaws.{loose-found}
 use Rattle.sizes.proofs.toiallocator.ToiAllocator.is_loose.Statement.{statement}
 use Rattle.sizes.proofs.toiallocator.ToiAllocator.is_loose.Tie as tie
 
-find-requires : tie.Need-find-requires
-find-requires c κs = search needs
-
 enum-told : tie.Need-enum-told
 enum-told c = search needs
-
-enum-told-2 : tie.Need-enum-told-2
-enum-told-2 c = search needs
 
 returns : tie.Need-returns
 returns c =
@@ -26,4 +21,4 @@ returns-2 c =
     sym (sym (loose-found (s .args .toi) (noted (s .args .self))) ∙ ap given (sym (c .before .before .find .ensures) ∙ ap place-said (c .enum-told2 .given .1)))
 
 pub is-loose-spec : {M : Type 1} → statement M
-is-loose-spec = tie.close (tie.spec find-requires enum-told enum-told-2 returns returns-2)
+is-loose-spec = tie.close (tie.spec (λ c κs. search needs) enum-told (λ c. search needs) returns returns-2)

@@ -54,16 +54,4 @@ returns-2 c =
 
 pub next-free-spec : {M : Type 1} → statement M
 next-free-spec =
-    tie.close
-    (tie.spec
-    Inv-loop
-    μ-loop
-    after-requires
-    loop-holds
-    has-entry-requires
-    returns
-    after-requires-2
-    sub-left
-    loop-less
-    loop-again
-    returns-2)
+    tie.close (tie.spec Inv-loop μ-loop after-requires loop-holds has-entry-requires returns after-requires-2 sub-left loop-less loop-again returns-2)

@@ -1,0 +1,16 @@
+-- `desk_program::reply::total_reply` meets its contract.
+use borrow.Author.Needs.{needs}
+use Rattle.desk_program.proofs.reply.total_reply.Statement.{statement}
+use Rattle.desk_program.proofs.reply.total_reply.Tie as tie
+
+enum-told : tie.Need-enum-told
+enum-told c = search needs
+
+returns : tie.Need-returns
+returns c = rw (c .before .a .given .1)
+
+returns-2 : tie.Need-returns-2
+returns-2 c = rw (c .enum-told .given .1)
+
+pub total-reply-spec : {M : Type 1} → statement M
+total-reply-spec = tie.close (tie.spec (λ c. search needs) enum-told returns returns-2)

@@ -1,2 +1,0 @@
--- The text of a transfer's lines.
-pub mod Lines

@@ -1,0 +1,3 @@
+-- Inputs (what the host names), Answers (what it is told).
+pub mod Inputs
+pub mod Answers

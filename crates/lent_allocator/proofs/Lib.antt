@@ -1,0 +1,2 @@
+-- What the proofs of both calls share.
+pub mod Allocator

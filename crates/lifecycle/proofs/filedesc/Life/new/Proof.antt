@@ -1,0 +1,9 @@
+use borrow.Author.Needs.{needs}
+use Rattle.lifecycle.proofs.filedesc.Life.new.Statement.{statement}
+use Rattle.lifecycle.proofs.filedesc.Life.new.Tie as tie
+
+returns : tie.Need-returns
+returns c = rw (c .none .ensures)
+
+pub new-spec : {M : Type 1} → statement M
+new-spec = tie.close (tie.spec (λ c κs. search needs) returns)
