@@ -1,5 +1,6 @@
 // Plays the script of standard input on a sender: an answer for each command.
 // The lines and answers beside this file are those of vectors/desk.py and of the original Rust.
+#![tactic(auto)]
 fn main() {
     desk_program::serve();
 }

@@ -16,7 +16,7 @@ use text::{Field, Word};
 use wire::record::{Reading, Record};
 
 // What a line asks for.
-#[derive(Drop)]
+#[derive(Clone, Copy)]
 pub enum Command {
     // an empty line, or a comment
     Skip,
@@ -88,7 +88,7 @@ pub enum Command {
 }
 
 // The numbers of a set-up. The priorities of its first `count` sessions stand each in a field.
-#[derive(Drop)]
+#[derive(Clone, Copy)]
 pub struct Opening {
     pub sizes: Sizes,
     pub window: u64,
@@ -182,7 +182,7 @@ fn read_read(line: &[u8], from: usize) -> Command {
 }
 
 // Up to six numbers, the first `count` of `all`; what stands behind them begins at `next`.
-#[derive(Drop)]
+#[derive(Clone, Copy)]
 struct Numbers {
     count: usize,
     all: [u64; 6],
@@ -315,7 +315,7 @@ fn of_six(name: &[u8], a: [u64; 6]) -> Command {
 }
 
 // A number, or `-` for none (`known` is false), and the place behind it; not `ok` where neither is next.
-#[derive(Drop)]
+#[derive(Clone, Copy)]
 struct Maybe {
     ok: bool,
     known: bool,
@@ -369,7 +369,7 @@ fn read_trigger(line: &[u8], from: usize) -> Command {
 
 // The priorities of a set-up: the first four. `fits` is false where there are none, more than four, or one above
 // 32 bits; `ok` is false where a word is no number.
-#[derive(Drop)]
+#[derive(Clone, Copy)]
 struct Priorities {
     ok: bool,
     fits: bool,
@@ -412,7 +412,7 @@ fn next_priorities(line: &[u8], from: usize, count: u64) -> Priorities {
 }
 
 // MODE GAP, and the place behind them.
-#[derive(Drop)]
+#[derive(Clone, Copy)]
 enum Repeats {
     Are { carousel: Carousel, next: usize },
     Bad,
@@ -442,7 +442,7 @@ fn next_repeats(line: &[u8], from: usize) -> Repeats {
 }
 
 // The same for an FDT, which is always sent again.
-#[derive(Drop)]
+#[derive(Clone, Copy)]
 enum FdtRepeats {
     Are { carousel: FdtCarousel, next: usize },
     Bad,
@@ -530,7 +530,7 @@ fn opening_of(
 }
 
 // E B of an object, or `-` for both, and the place behind them.
-#[derive(Drop)]
+#[derive(Clone, Copy)]
 enum OwnSizes {
     Are { own: Own, next: usize },
     Bad,
@@ -564,7 +564,7 @@ fn next_own(line: &[u8], from: usize) -> OwnSizes {
 }
 
 // TARGET TIME, and the place behind them.
-#[derive(Drop)]
+#[derive(Clone, Copy)]
 enum Pacing {
     Is { target: Target, next: usize },
     Bad,
@@ -594,7 +594,7 @@ fn next_pacing(line: &[u8], from: usize) -> Pacing {
 }
 
 // PRIORITY START LENGTH E B MAX, and the place behind them.
-#[derive(Drop)]
+#[derive(Clone, Copy)]
 enum Head {
     Is {
         priority: u64,
@@ -634,7 +634,7 @@ fn next_head(line: &[u8], from: usize) -> Head {
 }
 
 // `0` or `1`, and the place behind it.
-#[derive(Drop)]
+#[derive(Clone, Copy)]
 enum Flag {
     Is { value: bool, next: usize },
     Bad,
@@ -661,7 +661,7 @@ fn next_flag(line: &[u8], from: usize) -> Flag {
 }
 
 // FROM STOP TOI, the last words of an add.
-#[derive(Drop)]
+#[derive(Clone, Copy)]
 enum Tail {
     Is {
         start: Time,

@@ -1,4 +1,5 @@
 // Plays a script: answers each line of standard input.
+#![tactic(auto)]
 mod command;
 mod play;
 mod print;

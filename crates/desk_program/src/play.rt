@@ -19,7 +19,7 @@ use sizes::partition::Sizes;
 use sizes::refusal::Refusal;
 
 // The sender, whether a set-up was accepted for it, and the reply to the last command.
-#[derive(Drop)]
+#[derive(Clone, Copy)]
 pub struct Desk {
     pub open: bool,
     pub reply: Reply,

@@ -13,7 +13,7 @@ use sizes::refusal::Refusal;
 use sizes::toiallocator::{Given, Known};
 use wire::record::{Reading, Record};
 
-#[derive(Drop)]
+#[derive(Clone, Copy)]
 pub enum Reply {
     // to an empty line and a comment
     Silent,

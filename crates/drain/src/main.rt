@@ -1,4 +1,5 @@
 // Answers the first line of standard input, `L E B W`: a line for each packet of one transfer sent once, or `refused`.
+#![tactic(auto)]
 use libc::STDIN_FILENO;
 
 fn main() {

@@ -1,5 +1,6 @@
 // Answers each line of standard input as the program `drain` answers its first.
 // The lines and answers beside this file are those of vectors/drain.py and of the original Rust.
+#![tactic(auto)]
 use libc::STDIN_FILENO;
 
 fn main() {

@@ -17,7 +17,7 @@ use sizes::partition::Sizes;
 const LARGEST_NAMED_WINDOW: u64 = LARGEST_WINDOW as u64;
 
 // What a line says, or that the transfer is over.
-#[derive(Drop)]
+#[derive(Clone, Copy)]
 pub enum Line {
     Packet {
         block: Sbn,
@@ -30,14 +30,14 @@ pub enum Line {
     Over,
 }
 
-#[derive(Drop)]
+#[derive(Clone, Copy)]
 pub struct Turned {
     pub line: Line,
     pub encoder: BlockEncoder,
 }
 
 // Whether the numbers are admitted, and the transfer; where they are not, that of nothing.
-#[derive(Drop)]
+#[derive(Clone, Copy)]
 pub struct Begun {
     pub ok: bool,
     pub encoder: BlockEncoder,

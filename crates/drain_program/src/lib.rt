@@ -1,6 +1,7 @@
 // The answer to a line `L E B W`: a line for each packet of one transfer sent once, or `refused`.
 //
 // No packet is kept. The text of its line goes into a buffer, which is written whenever the next line may not fit.
+#![tactic(auto)]
 mod drain;
 
 ghost use Rattle.std.specs.Prelude.{◌+◌, ◌≤◌, length};
@@ -39,7 +40,7 @@ fn refuse() {
 }
 
 // The four numbers of a line, or that it has something else.
-#[derive(Drop)]
+#[derive(Clone, Copy)]
 enum Four {
     Numbers { l: u64, e: u64, b: u64, w: u64 },
     Bad,

@@ -1,4 +1,5 @@
 // A run of a file session that changes nothing but the session: from the session, the slot in its hand and how many FDTs wait.
+#![tactic(auto)]
 pub mod quick;
 
 ghost use Rattle.std.specs.Prelude.{◌≡◌, true, false};
@@ -15,7 +16,7 @@ use sender::sendersession::{SenderSession, is_forced};
 
 // Is the run settled? Then what the host is told, and the session after it.
 #[repr(C)]
-#[derive(Drop)]
+#[derive(Clone, Copy)]
 pub struct Settled {
     pub done: bool,
     pub answer: Sent,

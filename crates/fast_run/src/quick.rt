@@ -12,7 +12,7 @@ use sizes::numbers::Esi;
 
 // Where `done`: the block at `place` has `esi` for its next symbol, `next` is the place to visit next, and `due` the due time.
 #[repr(C)]
-#[derive(Drop)]
+#[derive(Clone, Copy)]
 pub struct Numbers {
     pub done: bool,
     pub place: usize,

@@ -12,7 +12,7 @@ use sizes::toiallocator::{Given, Known};
 
 // An object's number, or the refusal.
 #[repr(C)]
-#[derive(Drop)]
+#[derive(Clone, Copy)]
 pub struct Numbered {
     pub refused: u32,
     pub toi: u64,
@@ -20,7 +20,7 @@ pub struct Numbered {
 
 // The total transfers of an object, where it is listed.
 #[repr(C)]
-#[derive(Drop)]
+#[derive(Clone, Copy)]
 pub struct Counted {
     pub listed: bool,
     pub total: u64,
@@ -28,7 +28,7 @@ pub struct Counted {
 
 // The packet of a run, where `sent`; was the draft taken?
 #[repr(C)]
-#[derive(Drop)]
+#[derive(Clone, Copy)]
 pub struct Sent {
     pub refused: u32,
     pub taken: bool,

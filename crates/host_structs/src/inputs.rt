@@ -12,7 +12,7 @@ use sizes::partition::Sizes;
 
 // An object to add: with its own E and B where `own`, under the reservation `toi` where `named`.
 #[repr(C)]
-#[derive(Drop)]
+#[derive(Clone, Copy)]
 pub struct PlainObject {
     pub priority: u32,
     pub part: Part,
@@ -26,7 +26,7 @@ pub struct PlainObject {
 
 // What is named once. An FDT is sent again an interval after its last start where `from_start`, else after its last end.
 #[repr(C)]
-#[derive(Drop)]
+#[derive(Clone, Copy)]
 pub struct PlainSetup {
     pub sizes: Sizes,
     pub window: u64,

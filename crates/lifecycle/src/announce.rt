@@ -16,7 +16,7 @@ const FDT_IDS: u32 = LARGEST_FDT_ID + 1;
 
 // One FDT.
 #[repr(C)]
-#[derive(Drop)]
+#[derive(Clone, Copy)]
 pub struct Instance {
     pub id: u32,
     pub part: Part,
@@ -25,7 +25,7 @@ pub struct Instance {
 
 // The next id, the last publish, the FDTs that wait (the first `waiting`), and the current one where `has_current`.
 #[repr(C)]
-#[derive(Drop)]
+#[derive(Clone, Copy)]
 pub struct Announcer {
     pub fdtid: u32,
     pub last_publish: Time,
@@ -36,7 +36,7 @@ pub struct Announcer {
 }
 
 // What asking for the next FDT comes to: was the draft taken, and does the current one start now?
-#[derive(Drop)]
+#[derive(Clone, Copy)]
 pub struct NextInstance {
     pub taken: bool,
     pub starts: bool,
@@ -44,7 +44,7 @@ pub struct NextInstance {
 }
 
 // A part to announce, or none.
-#[derive(Drop)]
+#[derive(Clone, Copy)]
 pub enum Draft {
     Given(Part),
     Missing,

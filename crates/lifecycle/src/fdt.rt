@@ -23,7 +23,7 @@ const LAST_SLOT: usize = OBJECT_SLOTS - 1;
 
 // What the set-up names once: the stores' lengths, E and B, and the FDTs' validity and carousel.
 #[repr(C)]
-#[derive(Drop)]
+#[derive(Clone, Copy)]
 pub struct Settings {
     pub object_store: u64,
     pub fdt_store: u64,
@@ -35,7 +35,7 @@ pub struct Settings {
 
 // The list: held objects in slots, the queue of those that wait (the first `queued`, in order), the numbers and the FDTs.
 #[repr(C)]
-#[derive(Drop)]
+#[derive(Clone, Copy)]
 pub struct Fdt {
     pub settings: Settings,
     pub complete: bool,
@@ -47,21 +47,21 @@ pub struct Fdt {
 }
 
 // An object's own E and B, or the set-up's.
-#[derive(Drop)]
+#[derive(Clone, Copy)]
 pub enum Own {
     Sizes(Sizes),
     SetUp,
 }
 
 // The reservation that an add names, if any.
-#[derive(Drop)]
+#[derive(Clone, Copy)]
 pub enum Named {
     Toi(u64),
     Anew,
 }
 
 // What an add asks for.
-#[derive(Drop)]
+#[derive(Clone, Copy)]
 pub struct Request {
     pub priority: u32,
     pub part: Part,
@@ -71,73 +71,73 @@ pub struct Request {
 }
 
 // The number of an admitted object, or why it is refused.
-#[derive(Drop)]
+#[derive(Clone, Copy)]
 pub enum Admission {
     Toi(u64),
     Refused(Refusal),
 }
 
-#[derive(Drop)]
+#[derive(Clone, Copy)]
 pub struct Added {
     pub answer: Admission,
     pub fdt: Fdt,
 }
 
-#[derive(Drop)]
+#[derive(Clone, Copy)]
 pub struct Reserved {
     pub answer: Given,
     pub fdt: Fdt,
 }
 
-#[derive(Drop)]
+#[derive(Clone, Copy)]
 pub struct Released {
     pub answer: Known,
     pub fdt: Fdt,
 }
 
 // Yes or no.
-#[derive(Drop)]
+#[derive(Clone, Copy)]
 pub struct Touched {
     pub yes: bool,
     pub fdt: Fdt,
 }
 
 // The total transfers of a listed object.
-#[derive(Drop)]
+#[derive(Clone, Copy)]
 pub enum Transfers {
     Total(u64),
     NotListed,
 }
 
 // The slot that a session takes, if any.
-#[derive(Drop)]
+#[derive(Clone, Copy)]
 pub struct Taken {
     pub answer: Place,
     pub fdt: Fdt,
 }
 
 // A publish that was done, or why it was not.
-#[derive(Drop)]
+#[derive(Clone, Copy)]
 pub enum Publication {
     Done,
     Refused(Refusal),
 }
 
-#[derive(Drop)]
+#[derive(Clone, Copy)]
 pub struct Published {
     pub answer: Publication,
     pub fdt: Fdt,
 }
 
 // Is a draft good, or why not.
-#[derive(Drop)]
+#[derive(Clone, Copy)]
 pub enum DraftTest {
     Good,
     Refused(Refusal),
 }
 
 // What asking for the next FDT comes to: was the draft taken, and does the current FDT start now?
-#[derive(Drop)]
+#[derive(Clone, Copy)]
 pub struct NextFdt {
     pub taken: bool,
     pub starts: bool,

@@ -11,14 +11,14 @@ use sizes::partition::{Sizes, div_ceil};
 
 // A time that may be missing.
 #[repr(C)]
-#[derive(Drop)]
+#[derive(Clone, Copy)]
 pub struct Time {
     pub known: bool,
     pub at: u64,
 }
 
 // Sent again: never, a delay after the last end, an interval after the last start.
-#[derive(Drop)]
+#[derive(Clone, Copy)]
 pub enum Carousel {
     Never,
     Delay(u64),
@@ -26,7 +26,7 @@ pub enum Carousel {
 }
 
 // Sent as fast as can be, within a duration, by a time.
-#[derive(Drop)]
+#[derive(Clone, Copy)]
 pub enum Target {
     AtOnce,
     Within(u64),
@@ -35,7 +35,7 @@ pub enum Target {
 
 // What is asked of an object: the maximum of transfers, the carousel, the target, and whether it may be stopped at once.
 #[repr(C)]
-#[derive(Drop)]
+#[derive(Clone, Copy)]
 pub struct Plan {
     pub most: u32,
     pub repeats: bool,
@@ -49,7 +49,7 @@ pub struct Plan {
 
 // What has happened to it.
 #[repr(C)]
-#[derive(Drop)]
+#[derive(Clone, Copy)]
 pub struct Life {
     pub published: bool,
     pub transferring: bool,
@@ -62,7 +62,7 @@ pub struct Life {
 
 // A held object: its number, what it is, and its life.
 #[repr(C)]
-#[derive(Drop)]
+#[derive(Clone, Copy)]
 pub struct FileDesc {
     pub toi: u64,
     pub priority: u32,
@@ -74,7 +74,7 @@ pub struct FileDesc {
 
 // The due time of the next packet and the tick, where the object is paced.
 #[repr(C)]
-#[derive(Drop)]
+#[derive(Clone, Copy)]
 pub struct Pace {
     pub paced: bool,
     pub due: u64,

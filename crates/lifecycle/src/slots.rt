@@ -12,7 +12,7 @@ use sizes::place::Place;
 
 // A held object: how many hold it (the list, a session), and whether the list does.
 #[repr(C)]
-#[derive(Drop)]
+#[derive(Clone, Copy)]
 pub struct Slot {
     pub holders: u32,
     pub listed: bool,

@@ -1,4 +1,5 @@
 // The record of a sender's packet.
+#![tactic(auto)]
 ghost use Rattle.std.specs.Prelude.{◌≡◌};
 ghost use Rattle.sizes.specs.Words.{if◌then◌else◌, over};
 ghost use Rattle.sender.specs.SenderCalls.{packet_said, packet_in};
@@ -8,7 +9,7 @@ use sender::sender::{Packet, RunAnswer};
 use wire::record::Record;
 
 // The record of an answer's packet, if there is one.
-#[derive(Drop)]
+#[derive(Clone, Copy)]
 pub enum PacketRecord {
     Fields(Record),
     NoPacket,

@@ -35,7 +35,7 @@ pub fn put_hex(out: &mut [u8], at: usize, bytes: &[u8]) -> usize
 }
 
 // What digits stand for, if they are digits.
-#[derive(Drop)]
+#[derive(Clone, Copy)]
 pub enum Meant {
     Number(u8),
     Nothing,
@@ -80,7 +80,7 @@ fn pair(a: u8, b: u8) -> Meant
 }
 
 // How many bytes a word spells in hex, if it does.
-#[derive(Drop)]
+#[derive(Clone, Copy)]
 pub enum Spelled {
     Bytes(usize),
     Nothing,

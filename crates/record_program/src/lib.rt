@@ -1,4 +1,5 @@
 // The two commands on records, one that writes a record and one that reads it: their words, and the texts of their answers.
+#![tactic(auto)]
 mod hex;
 mod numbers;
 
@@ -11,7 +12,7 @@ use text::Word;
 use wire::record::{Reading, Record, Writing};
 
 // A record, and the room of the buffer that it is written into; or that the words are no such thing.
-#[derive(Drop)]
+#[derive(Clone, Copy)]
 pub enum WriteWords {
     Are { record: Record, room: u8 },
     Bad,
@@ -34,7 +35,7 @@ pub fn write_words(line: &[u8], from: usize) -> WriteWords {
 }
 
 // What the bytes of a line are as a record; or that its word spells no bytes.
-#[derive(Drop)]
+#[derive(Clone, Copy)]
 pub enum ReadWords {
     Are(Reading),
     Bad,

@@ -8,7 +8,7 @@ use text::Field;
 use wire::record::Record;
 
 // Ten numbers; not `ok` where there are less or more words, or one is no number.
-#[derive(Drop)]
+#[derive(Clone, Copy)]
 pub struct Numbers {
     pub ok: bool,
     pub all: [u64; 10],

@@ -12,19 +12,19 @@ use lifecycle::parts::Part;
 use sender::sender::Sender;
 use sender::setup::set_up;
 
-#[derive(Drop)]
+#[derive(Clone, Copy)]
 pub struct Numbering {
     pub answer: Numbered,
     pub sender: Sender,
 }
 
-#[derive(Drop)]
+#[derive(Clone, Copy)]
 pub struct Refusing {
     pub answer: u32,
     pub sender: Sender,
 }
 
-#[derive(Drop)]
+#[derive(Clone, Copy)]
 pub struct Sending {
     pub answer: Sent,
     pub sender: Sender,

@@ -14,7 +14,7 @@ use wire::record::{Reading, Record, Writing, read, write};
 
 // Where a payload stands: a part of the FDT store or of the object store.
 #[repr(C)]
-#[derive(Drop)]
+#[derive(Clone, Copy)]
 pub struct PayloadPlace {
     pub of_fdt: bool,
     pub start: u64,
@@ -23,7 +23,7 @@ pub struct PayloadPlace {
 
 // What a record says of a packet, or the refusal.
 #[repr(C)]
-#[derive(Drop)]
+#[derive(Clone, Copy)]
 pub struct PlainRecord {
     pub refused: u32,
     pub is_fdt: bool,

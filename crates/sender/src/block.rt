@@ -8,7 +8,7 @@ use sizes::partition::Partition;
 
 // A block, and the next symbol of it.
 #[repr(C)]
-#[derive(Drop)]
+#[derive(Clone, Copy)]
 pub struct Open {
     pub sbn: Sbn,
     pub esi: Esi,

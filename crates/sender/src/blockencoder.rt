@@ -14,7 +14,7 @@ const LAST_PLACE: usize = LARGEST_WINDOW - 1;
 
 // What is sent: its part of the store, and how it is cut.
 #[repr(C)]
-#[derive(Drop)]
+#[derive(Clone, Copy)]
 pub struct Content {
     pub part: Part,
     pub sizes: Sizes,
@@ -23,7 +23,7 @@ pub struct Content {
 
 // One transfer under way. The open blocks are the first `filled` of the window; `index` is the place to visit next.
 #[repr(C)]
-#[derive(Drop)]
+#[derive(Clone, Copy)]
 pub struct BlockEncoder {
     pub content: Content,
     pub width: usize,
@@ -38,7 +38,7 @@ pub struct BlockEncoder {
 
 // What a packet says of its symbol; the payload is a part of the store.
 #[repr(C)]
-#[derive(Drop)]
+#[derive(Clone, Copy)]
 pub struct Symbol {
     pub sbn: Sbn,
     pub esi: Esi,
@@ -50,27 +50,27 @@ pub struct Symbol {
 
 // The block that is read stands at `place`.
 #[repr(C)]
-#[derive(Drop)]
+#[derive(Clone, Copy)]
 pub struct Visit {
     pub place: usize,
     pub symbol: Symbol,
 }
 
 // A visit that only moves its block and the index on; or the next read is another one.
-#[derive(Drop)]
+#[derive(Clone, Copy)]
 pub enum Glance {
     One(Visit),
     Other,
 }
 
 // A symbol, or that there is none to send.
-#[derive(Drop)]
+#[derive(Clone, Copy)]
 pub enum Emitted {
     One(Symbol),
     Nothing,
 }
 
-#[derive(Drop)]
+#[derive(Clone, Copy)]
 pub struct Read {
     pub answer: Emitted,
     pub encoder: BlockEncoder,

@@ -10,7 +10,7 @@ use sizes::partition::Sizes;
 
 // `id` is the FDT's in hand while `busy`.
 #[repr(C)]
-#[derive(Drop)]
+#[derive(Clone, Copy)]
 pub struct FdtSession {
     pub busy: bool,
     pub id: u32,
@@ -18,7 +18,7 @@ pub struct FdtSession {
 }
 
 // What a run comes to, and whether it took the draft.
-#[derive(Drop)]
+#[derive(Clone, Copy)]
 pub struct FdtTurn {
     pub taken: bool,
     pub answer: Outcome,

@@ -22,7 +22,7 @@ use sizes::toiallocator::{Given, Known};
 
 // The list with its FDTs, the file sessions (the first `count`), and the FDT session.
 #[repr(C)]
-#[derive(Drop)]
+#[derive(Clone, Copy)]
 pub struct Sender {
     pub fdt: Fdt,
     pub window: usize,
@@ -32,7 +32,7 @@ pub struct Sender {
 }
 
 // An object to add.
-#[derive(Drop)]
+#[derive(Clone, Copy)]
 pub struct Object {
     pub priority: u32,
     pub part: Part,
@@ -46,7 +46,7 @@ pub struct Object {
 
 // A packet: of an FDT (object number 0) or of an object; its payload is a part of that store.
 #[repr(C)]
-#[derive(Drop)]
+#[derive(Clone, Copy)]
 pub struct Packet {
     pub is_fdt: bool,
     pub toi: u64,
@@ -55,46 +55,46 @@ pub struct Packet {
 }
 
 // What a run gives, or why it is refused.
-#[derive(Drop)]
+#[derive(Clone, Copy)]
 pub enum RunAnswer {
     Packet(Packet),
     Nothing,
     Refused(Refusal),
 }
 
-#[derive(Drop)]
+#[derive(Clone, Copy)]
 pub struct Reserving {
     pub answer: Given,
     pub sender: Sender,
 }
 
-#[derive(Drop)]
+#[derive(Clone, Copy)]
 pub struct Releasing {
     pub answer: Known,
     pub sender: Sender,
 }
 
-#[derive(Drop)]
+#[derive(Clone, Copy)]
 pub struct Adding {
     pub answer: Admission,
     pub sender: Sender,
 }
 
 // Yes or no.
-#[derive(Drop)]
+#[derive(Clone, Copy)]
 pub struct Touching {
     pub yes: bool,
     pub sender: Sender,
 }
 
-#[derive(Drop)]
+#[derive(Clone, Copy)]
 pub struct Publishing {
     pub answer: Publication,
     pub sender: Sender,
 }
 
 // `taken`: did an FDT run take its draft?
-#[derive(Drop)]
+#[derive(Clone, Copy)]
 pub struct Running {
     pub taken: bool,
     pub answer: RunAnswer,

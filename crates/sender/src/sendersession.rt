@@ -18,7 +18,7 @@ use sizes::place::Place;
 
 // `slot` is the object in hand while `busy`; the due time and the tick are its transfer's.
 #[repr(C)]
-#[derive(Drop)]
+#[derive(Clone, Copy)]
 pub struct SenderSession {
     pub priority: u32,
     pub busy: bool,
@@ -28,20 +28,20 @@ pub struct SenderSession {
 }
 
 // What a session comes to: no packet now, a packet's symbol, or that the transfer is over.
-#[derive(Drop)]
+#[derive(Clone, Copy)]
 pub enum Outcome {
     Idle,
     Sent(Symbol),
     Over,
 }
 
-#[derive(Drop)]
+#[derive(Clone, Copy)]
 pub struct Serving {
     pub answer: Outcome,
     pub session: SenderSession,
 }
 
-#[derive(Drop)]
+#[derive(Clone, Copy)]
 pub struct Turn {
     pub answer: Outcome,
     pub fdt: Fdt,

@@ -21,14 +21,14 @@ const LARGEST_NAMED_WINDOW: u64 = LARGEST_WINDOW as u64;
 const LARGEST_NAMED_ID: u64 = LARGEST_FDT_ID as u64;
 
 // An FDT is sent again a delay after its last end, or an interval after its last start.
-#[derive(Drop)]
+#[derive(Clone, Copy)]
 pub enum FdtCarousel {
     Delay(u64),
     Interval(u64),
 }
 
 // What is named once. Priorities are those of the first `count` sessions.
-#[derive(Drop)]
+#[derive(Clone, Copy)]
 pub struct Setup {
     pub sizes: Sizes,
     pub window: u64,
@@ -44,14 +44,14 @@ pub struct Setup {
 }
 
 // The sender after a set-up; where it is refused (`ok` is false), one that holds nothing.
-#[derive(Drop)]
+#[derive(Clone, Copy)]
 pub struct Opened {
     pub ok: bool,
     pub sender: Sender,
 }
 
 // A width of object numbers, or that it is none of the four.
-#[derive(Drop)]
+#[derive(Clone, Copy)]
 pub enum Width {
     Is(ToiMaxLength),
     Bad,

@@ -7,7 +7,7 @@ use crate::numbers::Sbn;
 
 // Symbol length E and largest block B, as the set-up or an object names them.
 #[repr(C)]
-#[derive(Drop)]
+#[derive(Clone, Copy)]
 pub struct Sizes {
     pub e: u64,
     pub b: u64,
@@ -15,7 +15,7 @@ pub struct Sizes {
 
 // Blocks 0 to nb_a_large - 1 have `large` symbols, the others `small`.
 #[repr(C)]
-#[derive(Drop)]
+#[derive(Clone, Copy)]
 pub struct Partition {
     pub large: u64,
     pub small: u64,
@@ -24,14 +24,14 @@ pub struct Partition {
 }
 
 // A block's length, or that there is none.
-#[derive(Drop)]
+#[derive(Clone, Copy)]
 pub enum BlockLength {
     Bytes(u64),
     Nothing,
 }
 
 // A number of 64 bits, or that it would pass them.
-#[derive(Drop)]
+#[derive(Clone, Copy)]
 enum Checked {
     Fits(u64),
     Past,

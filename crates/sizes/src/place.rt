@@ -1,5 +1,5 @@
 // Where a search finds what it looks for, if it does.
-#[derive(Drop)]
+#[derive(Clone, Copy)]
 pub enum Place {
     At(usize),
     Nothing,

@@ -3,7 +3,7 @@ ghost use Rattle.std.specs.Prelude.{◌≡◌};
 ghost use Rattle.sizes.specs.Refusals.{refusal_number};
 
 // A reason that will answer more than its number has its value here, as `InTheWay(u64)`.
-#[derive(Drop)]
+#[derive(Clone, Copy)]
 pub enum Refusal {
     SetUp,
     NoPriority,

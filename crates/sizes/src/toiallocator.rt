@@ -14,7 +14,7 @@ use crate::place::Place;
 const LAST_ENTRY: usize = TOI_ENTRIES - 1;
 
 // How wide the numbers are.
-#[derive(Drop)]
+#[derive(Clone, Copy)]
 pub enum ToiMaxLength {
     ToiMax16,
     ToiMax32,
@@ -24,7 +24,7 @@ pub enum ToiMaxLength {
 
 // A number that is held: by a loose reservation, or by an object.
 #[repr(C)]
-#[derive(Drop)]
+#[derive(Clone, Copy)]
 pub struct Entry {
     pub toi: u64,
     pub loose: bool,
@@ -32,7 +32,7 @@ pub struct Entry {
 
 // The entries in use are the first `entered`; `next` is the number that the next call gives.
 #[repr(C)]
-#[derive(Drop)]
+#[derive(Clone, Copy)]
 pub struct ToiAllocator {
     pub entries: [Entry; TOI_ENTRIES],
     pub entered: usize,
@@ -41,26 +41,26 @@ pub struct ToiAllocator {
 }
 
 // The number that was given, or that all entries are in use.
-#[derive(Drop)]
+#[derive(Clone, Copy)]
 pub enum Given {
     Number(u64),
     Full,
 }
 
-#[derive(Drop)]
+#[derive(Clone, Copy)]
 pub struct Allocated {
     pub answer: Given,
     pub allocator: ToiAllocator,
 }
 
 // Whether the named entry was there.
-#[derive(Drop)]
+#[derive(Clone, Copy)]
 pub enum Known {
     Done,
     Unknown,
 }
 
-#[derive(Drop)]
+#[derive(Clone, Copy)]
 pub struct Changed {
     pub answer: Known,
     pub allocator: ToiAllocator,

@@ -19,7 +19,7 @@ pub fn part(s: &[u8], start: usize, end: usize) -> &[u8]
 }
 
 // A blank; a byte of a word; a byte of a line.
-#[derive(Drop)]
+#[derive(Clone, Copy)]
 pub enum Class {
     Blank,
     Ink,

@@ -12,6 +12,7 @@
 //         answer(text::this_line(buf, lines));
 //         lines = text::next_line(STDIN_FILENO, buf, lines);
 //     }
+#![tactic(auto)]
 mod bytes;
 mod line;
 mod number;

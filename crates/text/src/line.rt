@@ -45,7 +45,7 @@ fn read_at(fd: i32, buf: &mut [u8], at: usize) -> usize
 // Where a program stands in what it reads, with the buffer that it lends: the line taken last is the
 // bytes start..end of the buffer, and next..to are read and not taken yet. No line was left where `over`
 // is set. Nothing more is read once `ended` is set.
-#[derive(Drop)]
+#[derive(Clone, Copy)]
 pub struct Input {
     pub start: usize,
     pub end: usize,
@@ -144,7 +144,7 @@ pub const LONGEST: usize = 65535;
 
 // The line taken last, and how many may still be taken, with this one: 0 where none was left. A proved loop has to end,
 // and nothing says that the input does: so the lines are counted down, from a number that no run uses up.
-#[derive(Drop)]
+#[derive(Clone, Copy)]
 pub struct Lines {
     pub at: Input,
     pub left: u64,

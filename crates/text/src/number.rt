@@ -6,7 +6,7 @@ use crate::bytes::part;
 use crate::word::{Word, next_word};
 
 // A numeral below 2^64; a numeral of 2^64 or more; no numeral.
-#[derive(Drop)]
+#[derive(Clone, Copy)]
 pub enum Number {
     Value(u64),
     Past,
@@ -65,7 +65,7 @@ fn with_digit(n: Number, b: u8) -> Number
 }
 
 // A number and the place behind it; no word is left; the word is no number below 2^64.
-#[derive(Drop)]
+#[derive(Clone, Copy)]
 pub enum Field {
     Value { value: u64, next: usize },
     Missing,

@@ -5,7 +5,7 @@ ghost use Rattle.text.specs.Words.{NextWord, is_end, same, word_from};
 use crate::bytes::{Class, pass};
 
 // A word is the bytes start..end.
-#[derive(Drop)]
+#[derive(Clone, Copy)]
 pub enum Word {
     At { start: usize, end: usize },
     End,

@@ -1,5 +1,6 @@
 // Reads lines from standard input and writes, for each, the numbers that its words are, with spaces between
 // them: `past` for a numeral of 2^64 or more, `unreadable` for a word that is no numeral.
+#![tactic(auto)]
 ghost use Rattle.std.specs.Prelude.{◌<◌, length};
 
 use libc::{STDIN_FILENO, STDOUT_FILENO};

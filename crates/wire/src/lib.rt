@@ -1,2 +1,3 @@
 // What goes over the wire: the packet record.
+#![tactic(auto)]
 pub mod record;

@@ -16,7 +16,7 @@ const MOST_20: u32 = 0xF_FFFF;
 const MOST_48: u64 = 0xFFFF_FFFF_FFFF;
 
 // What a record says of a packet. A value may be too wide for its field.
-#[derive(Drop)]
+#[derive(Clone, Copy)]
 pub struct Record {
     pub is_fdt: bool,
     pub close: bool,
@@ -30,14 +30,14 @@ pub struct Record {
 }
 
 // Has the record been written?
-#[derive(Drop)]
+#[derive(Clone, Copy)]
 pub enum Writing {
     Done,
     Refused,
 }
 
 // The record that stands in the bytes, if any does.
-#[derive(Drop)]
+#[derive(Clone, Copy)]
 pub enum Reading {
     Fields(Record),
     Refused,
