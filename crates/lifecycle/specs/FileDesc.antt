@@ -39,8 +39,8 @@ life_of x = record {
   count = x.count;
   total = x.total;
   last_start = time_of x.last_start;
-  last-end = time_of x.last_end;
-  named-start = time_of x.named_start;
+  last_end = time_of x.last_end;
+  named_start = time_of x.named_start;
 }
 
 abbrev pub pace_said : Pace → Option Def.Pace
