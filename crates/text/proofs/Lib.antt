@@ -1,6 +1,6 @@
 -- Laws on bytes, words, numbers and lines.
 pub mod Appends
-pub mod Lines
+pub mod LineLaws
 pub mod Lists
 pub mod Numbers
 pub mod ReadBack

@@ -1,7 +1,7 @@
 -- `text::line::refill` meets its contract, with bytes kept and without.
 use borrow.Author.Rules.{rules}
 use Rattle.text.proofs.Lists.{part_turned, part_past}
-use Rattle.text.proofs.Lines.{refilled_none, refilled_moved}
+use Rattle.text.proofs.LineLaws.{refilled_none, refilled_moved}
 use Rattle.text.proofs.line.refill.Statement.{statement}
 use Rattle.text.proofs.line.refill.Tie as tie
 

@@ -10,7 +10,7 @@ use Rattle.text.specs.Bytes.{part}
 use Rattle.text.specs.Lines.{StartsWith, line_from}
 use Rattle.text.specs.declared.line.Input.{Input}
 use Rattle.text.proofs.Lists.{part_length}
-use Rattle.text.proofs.Lines.{starts_self, starts_refilled, taken}
+use Rattle.text.proofs.LineLaws.{starts_self, starts_refilled, taken}
 use Rattle.text.proofs.line.take_from.Statement.{statement}
 use Rattle.text.proofs.line.take_from.Tie as tie
 

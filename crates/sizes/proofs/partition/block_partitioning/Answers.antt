@@ -1,0 +1,43 @@
+-- `sizes::partition::block_partitioning` meets its contract: each return by the tests that led there.
+use Rattle.std.proofs.Common.{◌<◌, div-mul-le_self, arith, rules, ne_eqb}
+use Rattle.sizes.proofs.Arithmetic.{ceil_some}
+use Rattle.sizes.specs.Partition.{symbols_of, split, partition_of}
+use Rattle.sizes.proofs.partition.block_partitioning.Goals as goal
+
+-- there is a symbol, so there is a block
+some_blocks : (c : goal.After-div_ceil-n) → 0 < c.div_ceil-n.result
+some_blocks c = rw c.div_ceil-n.ensures (ceil_some _ _ (search rules) (search rules))
+
+pub returns-then-b-eq0 : goal.returns-then-b-eq0
+unfolding partition_of
+returns-then-b-eq0 c = rw (c.no_blocks.ensures, c.if-b-eq0.true)
+
+pub returns-then-e-eq0 : goal.returns-then-e-eq0
+unfolding partition_of
+returns-then-e-eq0 c = rw (c.no_blocks-then-e-eq0.ensures, ne_eqb _ _ c.if-b-eq0.false, c.if-e-eq0.true)
+
+pub returns-then-t-eq0 : goal.returns-then-t-eq0
+unfolding partition_of symbols_of
+returns-then-t-eq0 c =
+    rw (c.no_blocks-then-t-eq0.ensures, ne_eqb _ _ c.if-b-eq0.false, ne_eqb _ _ c.if-e-eq0.false, ← c.div_ceil-t.ensures, c.if-t-eq0.true)
+
+pub nonzero_div-small : goal.nonzero_div-small
+nonzero_div-small c = some_blocks c.before
+
+pub overflow_mul-result : goal.overflow_mul-result
+overflow_mul-result c = record { fits = omega (arith, div-mul-le_self c.div_ceil-t.result c.div_ceil-n.result) }
+
+pub overflow_sub-result : goal.overflow_sub-result
+overflow_sub-result c = div-mul-le_self _ _
+
+pub returns : goal.returns
+unfolding partition_of symbols_of split
+returns c =
+    rw (
+      ne_eqb _ _ c.if-b-eq0.false,
+      ne_eqb _ _ c.if-e-eq0.false,
+      ← c.div_ceil-t.ensures,
+      ne_eqb _ _ c.if-t-eq0.false,
+      ← c.div_ceil-n.ensures,
+      ← c.div_ceil-large.ensures,
+    )

@@ -1,0 +1,7 @@
+use Rattle.std.proofs.Common.{refl, rules}
+use Rattle.sizes.specs.Allocator.{noting}
+use Rattle.sizes.proofs.toiallocator.ToiAllocator.with_next.Goals as goal
+
+pub returns : goal.returns
+unfolding noting
+returns c = refl

@@ -1,0 +1,19 @@
+use Rattle.std.proofs.Common.{◌≡◌, ◌%◌, ◌^◌, ◌<◌, sym, subst, mod-eq_of_lt, rules}
+use Rattle.sizes.proofs.AllocatorLaws.{width_64}
+use Rattle.sizes.proofs.toiallocator.to_max_length.Goals as goal
+
+pub returns-in-16 : goal.returns-in-16
+returns-in-16 c = rw c.in-16.is
+
+pub returns-in-32 : goal.returns-in-32
+returns-in-32 c = rw c.in-32.is
+
+pub returns-in-48 : goal.returns-in-48
+returns-in-48 c = rw c.in-48.is
+
+pub returns-in_default : goal.returns-in_default
+returns-in_default c =
+    let r = c.in_default.rest in
+    let n = c.args.n in
+    let h : n < 2 ^ 64 = search rules in
+    sym (subst (λ w. n % 2 ^ w ≡ n) (sym (width_64 c.args.width c.requires r.0.0.1 r.0.1 r.1)) (mod-eq_of_lt h))
