@@ -15,6 +15,7 @@ use Rattle.definition.proofs.Refused.{either}
 use Rattle.definition.proofs.Everywhere.{each_step, each_opening}
 
 among_stable : (j : List Object) (x : Life) (o : Object) → Among j o → Among j (living x o)
+among_stable [] x o u = elim u [ ]
 among_stable (a ∷ j) x o (this e) = this e
 among_stable (a ∷ j) x o (later u) = later (among_stable j x o u)
 

@@ -96,6 +96,7 @@ idle_current none nothing = refl
 idle_current (some i) (resting e) = e
 
 rehand : (x : Option Instance) (h k : FdtHand) → k.id ≡ h.id → k.part ≡ h.part → Matched x (some h) → Matched x (some k)
+rehand none h k a b m = elim m [ ]
 rehand (some i) h k a b (sending t d e) = sending t (a ∙ d) (b ∙ e)
 
 -- the sum stays within b with what the draft may still bring
