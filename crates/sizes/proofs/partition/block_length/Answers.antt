@@ -3,17 +3,18 @@ use Rattle.std.proofs.Common.{◌≡◌, ◌*◌, sym, ◌∙◌, rules}
 use Rattle.sizes.specs.Partition.{checked}
 use Rattle.sizes.specs.declared.partition.Checked.TheVariants.{Fits}
 use Rattle.sizes.proofs.Lengths.{large_told, small_told, first_past, first_fits, small_offset_past, large_offset_past, offset_past, later_fits}
+use Rattle.sizes.proofs.partition.block_length.Lts as lts
 use Rattle.sizes.proofs.partition.block_length.Goals as goal
 
 -- the two sizes are the two products
-large : (c : goal.In-Fits-2) → checked (c.args.large * c.args.e) ≡ Fits c.in-Fits.large_size
+large : (c : lts.In-Fits-2) → checked (c.args.large * c.args.e) ≡ Fits c.in-Fits.large_size
 large c = sym c.checked_mul.ensures ∙ c.in-Fits.is
 
 -- the place where the first size became known
-abbrev sized : goal.In-Fits-checked_mul-5 → goal.In-Fits-2
+abbrev sized : lts.In-Fits-checked_mul-5 → lts.In-Fits-2
 sized c = c.before.before.before.before
 
-small : (c : goal.In-Fits-checked_mul-5) → checked ((sized c).before.before.before.args.small * (sized c).before.before.before.args.e) ≡ Fits c.in-Fits-checked_mul.small_size
+small : (c : lts.In-Fits-checked_mul-5) → checked ((sized c).before.before.before.args.small * (sized c).before.before.before.args.e) ≡ Fits c.in-Fits-checked_mul.small_size
 small c = sym c.checked_mul-2.ensures ∙ c.in-Fits-checked_mul.is
 
 pub returns-in_default : goal.returns-in_default

@@ -1,0 +1,9 @@
+-- `desk_program::reply::given_reply` meets its contract.
+use borrow.Author.Rules.{rules}
+use Rattle.desk_program.proofs.reply.given_reply.Goals as goal
+
+pub returns-in-Number : goal.returns-in-Number
+returns-in-Number c = rw c.in-Number.is
+
+pub returns-in-Full : goal.returns-in-Full
+returns-in-Full c = rw c.in-Full.is

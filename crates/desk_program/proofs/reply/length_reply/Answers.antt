@@ -1,0 +1,9 @@
+-- `desk_program::reply::length_reply` meets its contract.
+use borrow.Author.Rules.{rules}
+use Rattle.desk_program.proofs.reply.length_reply.Goals as goal
+
+pub returns-in-Bytes : goal.returns-in-Bytes
+returns-in-Bytes c = rw c.in-Bytes.is
+
+pub returns-in-Nothing : goal.returns-in-Nothing
+returns-in-Nothing c = rw c.in-Nothing.is

@@ -1,0 +1,14 @@
+use mathlib.Core.Path.{◌≡◌, ◌∙◌}
+use Prim.Native.Nat.{ℕ, ◌<◌, ◌≤◌, ◌-◌}
+use native.Mathlib.Omega.{arith}
+use borrow.Author.Rules.{rules}
+use lib.ListN.{length, get_or, length-set}
+use Rattle.desk_program.specs.Stores.{byte_at, Filled}
+use Rattle.desk_program.proofs.StoreLaws.{one_more}
+use Rattle.desk_program.proofs.store.fill.Given as goal
+
+abbrev pub invariant-loop-i : goal.invariant-loop-i
+invariant-loop-i l = (length l.store ≡ length l.initial.store) × (l.i ≤ length l.store) × ((k : ℕ) → k < l.i → get_or l.store k 0 ≡ byte_at l.is_fdt k)
+
+abbrev pub decreases-loop-i : goal.decreases-loop-i
+decreases-loop-i l = length l.initial.store - l.i

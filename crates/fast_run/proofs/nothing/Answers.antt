@@ -1,0 +1,5 @@
+use borrow.Author.Rules.{rules}
+use Rattle.fast_run.proofs.nothing.Goals as goal
+
+pub returns : goal.returns
+returns c = rw c.run_told.ensures

@@ -1,9 +1,0 @@
-use borrow.Author.Rules.{rules}
-use Rattle.lifecycle.proofs.announce.Instance.new.Statement.{statement}
-use Rattle.lifecycle.proofs.announce.Instance.new.Tie as tie
-
-returns : tie.Need-returns
-returns c = rw (c.new.ensures, c.before.none.ensures)
-
-pub new_spec : {M : Type 1} → statement M
-new_spec = tie.close (tie.spec (λ c κs. search rules) (λ c κs. search rules) returns)

@@ -1,0 +1,18 @@
+use mathlib.Core.Path.{◌∙◌, ap}
+use borrow.Author.Rules.{rules}
+use Rattle.lifecycle.specs.declared.fdt.Fdt.{Fdt}
+use Rattle.lifecycle.proofs.PublishLaws.{next_taken_by, next_left_by}
+use mathlib.Core.Bool.{true}
+use Rattle.lifecycle.proofs.fdt.Fdt.get_next_fdt_transfer.Goals as goal
+
+pub returns-then-n : goal.returns-then-n
+returns-then-n c =
+    let s = c.args in
+    let n = c.get_next_fdt_transfer-n.result in
+    ap (λ (g : Fdt). record { taken = true; starts = n.starts; fdt = g }) c.announced-self.ensures
+    ∙ next_taken_by s.now s.draft s.self c.fdt_plan-plan.result n c.fdt_plan-plan.ensures c.get_next_fdt_transfer-n.ensures c.if-n.true
+
+pub returns : goal.returns
+returns c =
+    let s = c.args in
+    next_left_by s.now s.draft s.self c.fdt_plan-plan.result c.get_next_fdt_transfer-n.result c.fdt_plan-plan.ensures c.get_next_fdt_transfer-n.ensures c.if-n.false

@@ -1,0 +1,24 @@
+use mathlib.Core.Path.{sym}
+use borrow.Author.Rules.{rules}
+use Rattle.lifecycle.proofs.FdtLaws.{queue_inside, startable_found, taken_none, taken_some}
+use Rattle.lifecycle.proofs.fdt.Fdt.get_next_file_transfer.Goals as goal
+
+pub first_startable-requires : goal.first_startable-requires
+first_startable-requires c = (c.requires.queued, queue_inside c.args.self c.requires)
+
+pub returns-in_default : goal.returns-in_default
+returns-in_default c = let a = c.args in sym (taken_none a.priority a.now a.self c.first_startable.ensures c.in_default.is)
+
+pub offset_bounds-queue-n : goal.offset_bounds-queue-n
+offset_bounds-queue-n c = let h = (startable_found c.args.priority c.args.now c.args.self c.first_startable.ensures c.in-At.is c.requires).1 in search rules
+
+pub bounds-queue-n : goal.bounds-queue-n
+bounds-queue-n c = (startable_found c.args.priority c.args.now c.args.self c.first_startable.ensures c.in-At.is c.requires).1
+
+pub taken-self-requires : goal.taken-self-requires
+taken-self-requires c = let h = startable_found c.args.priority c.args.now c.args.self c.first_startable.ensures c.in-At.is c.requires in
+    (c.requires, h.2, h.0)
+
+pub returns : goal.returns
+returns c = let a = c.args in
+    rw c.taken-self.ensures (sym (taken_some a.priority a.now a.self c.first_startable.ensures c.in-At.is))

@@ -1,0 +1,12 @@
+use mathlib.Core.Path.{sym, ◌∙◌}
+use borrow.Author.Rules.{rules}
+use Rattle.lifecycle.specs.FdtCalls.{bad_part_of}
+use Rattle.lifecycle.proofs.fdt.Fdt.is_bad_part.Goals as goal
+
+pub returns-then-ends_past : goal.returns-then-ends_past
+unfolding bad_part_of
+returns-then-ends_past c = rw (sym c.ends_past.ensures ∙ c.if-ends_past.true)
+
+pub returns : goal.returns
+unfolding bad_part_of
+returns c = rw (c.any_shares.ensures, sym c.ends_past.ensures ∙ c.if-ends_past.false)

@@ -1,0 +1,5 @@
+use borrow.Author.Rules.{rules}
+use Rattle.lifecycle.proofs.filedesc.FileDesc.transfer_done.Goals as goal
+
+pub returns : goal.returns
+returns c = rw c.done-self.ensures

@@ -1,0 +1,17 @@
+use mathlib.Core.Path.{◌≡◌, sym, ◌∙◌, ap}
+use Prim.Native.Nat.{◌-◌, ◌≤◌}
+use native.Mathlib.Omega.{arith}
+use borrow.Author.Rules.{rules}
+use lib.ListN.{length}
+use lib.Seq.{take_all}
+use Rattle.sizes.specs.Words.{place}
+use Rattle.sizes.specs.Limits.{object_slots}
+use Rattle.sizes.proofs.Arrays.{ahead, place_start, place_hit, place_miss, place_end}
+use Rattle.lifecycle.specs.Slots.{no_slot, is_listed_as}
+use Rattle.lifecycle.proofs.slots.listed_slot.Given as goal
+
+abbrev pub invariant-loop-i : goal.invariant-loop-i
+invariant-loop-i l = (long : object_slots ≤ length l.slots) × (l.i ≤ object_slots) × (ahead (is_listed_as l.toi) object_slots l.slots long l.i ≡ place (is_listed_as l.toi) l.slots)
+
+abbrev pub decreases-loop-i : goal.decreases-loop-i
+decreases-loop-i l = object_slots - l.i

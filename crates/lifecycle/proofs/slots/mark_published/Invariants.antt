@@ -1,0 +1,15 @@
+use mathlib.Core.Path.{◌≡◌, refl, ◌∙◌}
+use Prim.Native.Nat.{◌-◌, ◌≤◌}
+use native.Mathlib.Omega.{arith}
+use borrow.Author.Rules.{rules}
+use lib.ListN.{length}
+use Rattle.sizes.proofs.Arrays.{mapped, mapped_more, mapped_all}
+use Rattle.lifecycle.specs.Slots.{no_slot, published_slot}
+use Rattle.sizes.specs.Limits.{object_slots}
+use Rattle.lifecycle.proofs.slots.mark_published.Given as goal
+
+abbrev pub invariant-loop-k : goal.invariant-loop-k
+invariant-loop-k l = (l.k ≤ object_slots) × (length l.initial.out ≡ object_slots) × (l.out ≡ mapped published_slot l.initial.out l.k)
+
+abbrev pub decreases-loop-k : goal.decreases-loop-k
+decreases-loop-k l = object_slots - l.k

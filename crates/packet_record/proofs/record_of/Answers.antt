@@ -1,0 +1,33 @@
+-- `packet_record::record_of` meets its contract: each field is the packet's, and an object's packet has no id.
+use mathlib.Core.Path.{◌≡◌, refl, ◌∙◌}
+use mathlib.Core.Bool.{Bool, true, false}
+use mathlib.Core.Option.{none, some}
+use Prim.Native.Nat.{ℕ}
+use borrow.Author.Rules.{rules}
+use Rattle.sizes.specs.Words.{if◌then◌else◌, given, maybe}
+use Rattle.packet_record.proofs.record_of.Goals as goal
+
+-- the flag and the number as the definition's id has them
+flag_given : (b : Bool) (k : ℕ) → b ≡ given (if b then some k else none)
+flag_given true k = refl
+flag_given false k = refl
+
+id_given : (b : Bool) (k : ℕ) → (if b then k else 0) ≡ maybe 0 (λ n. n) (if b then some k else none)
+id_given true k = refl
+id_given false k = refl
+
+pub returns : goal.returns
+returns c =
+    let p = c.args.p in
+    λ i.
+    record {
+      is_fdt = flag_given p.is_fdt p.fdt_id i;
+      close = p.symbol.close;
+      fdt_id = (c.own_id.ensures ∙ id_given p.is_fdt p.fdt_id) i;
+      toi = p.toi;
+      block = p.symbol.sbn;
+      symbol = p.symbol.esi;
+      length = p.symbol.payload.size;
+      total = p.symbol.transfer_length;
+      symbols = p.symbol.symbols;
+    }

@@ -1,0 +1,106 @@
+use Rattle.sizes.proofs.Lengths.{before_large, before_small}
+use Rattle.sender.specs.EncoderCalls.{offset_of}
+use Rattle.sender.proofs.Offsets.{offset_early, rank_low}
+use mathlib.Core.Path.{sym, ap}
+use Prim.Native.Nat.{◌+◌, ◌*◌}
+use native.Mathlib.Omega.{arith}
+use borrow.Author.Rules.{rules}
+use Rattle.sender.proofs.blockencoder.BlockEncoder.offset.Goals as goal
+
+pub overflow_mul-result : goal.overflow_mul-result
+overflow_mul-result c =
+    let x = c.args.self.content in
+    let k = c.args.o in
+    let b = before_large x.partition k.sbn c.if-k-p.true in
+    let m = ap (λ f. (f + k.esi.0) * x.sizes.e) b in
+    let n = offset_early x c.requires.0.content k c.requires.1 c.requires.2 in
+    let r = rank_low x c.requires.0.content k c.requires.1 c.requires.2 in
+    let f = c.requires.0.content.fits in
+    omega arith
+
+pub overflow_add-result : goal.overflow_add-result
+overflow_add-result c =
+    let x = c.args.self.content in
+    let k = c.args.o in
+    let b = before_large x.partition k.sbn c.if-k-p.true in
+    let m = ap (λ f. (f + k.esi.0) * x.sizes.e) b in
+    let n = offset_early x c.requires.0.content k c.requires.1 c.requires.2 in
+    let r = rank_low x c.requires.0.content k c.requires.1 c.requires.2 in
+    let f = c.requires.0.content.fits in
+    omega arith
+
+pub overflow_mul-result-then-k-p : goal.overflow_mul-result-then-k-p
+overflow_mul-result-then-k-p c =
+    let x = c.args.self.content in
+    let k = c.args.o in
+    let b = before_large x.partition k.sbn c.if-k-p.true in
+    let m = ap (λ f. (f + k.esi.0) * x.sizes.e) b in
+    let n = offset_early x c.requires.0.content k c.requires.1 c.requires.2 in
+    let r = rank_low x c.requires.0.content k c.requires.1 c.requires.2 in
+    let f = c.requires.0.content.fits in
+    omega arith
+
+pub returns-then-k-p : goal.returns-then-k-p
+unfolding offset_of
+returns-then-k-p c = ap (λ f. (f + c.args.o.esi.0) * c.args.self.content.sizes.e)
+    (sym (before_large c.args.self.content.partition c.args.o.sbn c.if-k-p.true))
+
+pub overflow_mul-result-2 : goal.overflow_mul-result-2
+overflow_mul-result-2 c =
+    let x = c.args.self.content in
+    let k = c.args.o in
+    let b = before_small x.partition k.sbn c.if-k-p.false in
+    let m = ap (λ f. (f + k.esi.0) * x.sizes.e) b in
+    let n = offset_early x c.requires.0.content k c.requires.1 c.requires.2 in
+    let r = rank_low x c.requires.0.content k c.requires.1 c.requires.2 in
+    let f = c.requires.0.content.fits in
+    omega arith
+
+pub overflow_mul-result-3 : goal.overflow_mul-result-3
+overflow_mul-result-3 c =
+    let x = c.args.self.content in
+    let k = c.args.o in
+    let b = before_small x.partition k.sbn c.if-k-p.false in
+    let m = ap (λ f. (f + k.esi.0) * x.sizes.e) b in
+    let n = offset_early x c.requires.0.content k c.requires.1 c.requires.2 in
+    let r = rank_low x c.requires.0.content k c.requires.1 c.requires.2 in
+    let f = c.requires.0.content.fits in
+    omega arith
+
+pub overflow_add-result-2 : goal.overflow_add-result-2
+overflow_add-result-2 c =
+    let x = c.args.self.content in
+    let k = c.args.o in
+    let b = before_small x.partition k.sbn c.if-k-p.false in
+    let m = ap (λ f. (f + k.esi.0) * x.sizes.e) b in
+    let n = offset_early x c.requires.0.content k c.requires.1 c.requires.2 in
+    let r = rank_low x c.requires.0.content k c.requires.1 c.requires.2 in
+    let f = c.requires.0.content.fits in
+    omega arith
+
+pub overflow_add-result-3 : goal.overflow_add-result-3
+overflow_add-result-3 c =
+    let x = c.args.self.content in
+    let k = c.args.o in
+    let b = before_small x.partition k.sbn c.if-k-p.false in
+    let m = ap (λ f. (f + k.esi.0) * x.sizes.e) b in
+    let n = offset_early x c.requires.0.content k c.requires.1 c.requires.2 in
+    let r = rank_low x c.requires.0.content k c.requires.1 c.requires.2 in
+    let f = c.requires.0.content.fits in
+    omega arith
+
+pub overflow_mul-result-4 : goal.overflow_mul-result-4
+overflow_mul-result-4 c =
+    let x = c.args.self.content in
+    let k = c.args.o in
+    let b = before_small x.partition k.sbn c.if-k-p.false in
+    let m = ap (λ f. (f + k.esi.0) * x.sizes.e) b in
+    let n = offset_early x c.requires.0.content k c.requires.1 c.requires.2 in
+    let r = rank_low x c.requires.0.content k c.requires.1 c.requires.2 in
+    let f = c.requires.0.content.fits in
+    omega arith
+
+pub returns : goal.returns
+unfolding offset_of
+returns c = ap (λ f. (f + c.args.o.esi.0) * c.args.self.content.sizes.e)
+    (sym (before_small c.args.self.content.partition c.args.o.sbn c.if-k-p.false))

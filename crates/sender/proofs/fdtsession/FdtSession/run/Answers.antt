@@ -1,0 +1,27 @@
+use mathlib.Core.Logic.{⊎_elim}
+use denote.Enum.Declared.{tag_of}
+use Rattle.sender.specs.contracts.sendersession.Outcome.{the_type}
+use Rattle.sender.proofs.FdtSessionLaws.{round_tries, ran_over, ran_once}
+use mathlib.Core.Path.{ap}
+use native.Mathlib.Omega.{arith}
+use borrow.Author.Rules.{rules}
+use Rattle.sender.proofs.fdtsession.FdtSession.run.Goals as goal
+
+pub attempt-requires : goal.attempt-requires
+attempt-requires c =
+    let s = c.args in
+    let a = c.attempt-a in
+    round_tries s.width s.now s.draft s.fdt s.self c.requires a.result a.ensures
+
+pub returns-in-Over : goal.returns-in-Over
+returns-in-Over c =
+    let s = c.args in
+    let a = c.attempt-a in
+    ran_over s.width s.now s.draft s.fdt s.self a.result a.ensures c.in-Over.is c.attempt.result c.attempt.ensures
+
+pub returns : goal.returns
+returns c =
+    let s = c.args in
+    let a = c.attempt-a in
+    ran_once s.width s.now s.draft s.fdt s.self a.result a.ensures
+    (λ e. let t = ap (tag_of the_type) e in ⊎_elim (λ k. omega arith) (λ k. omega arith) c.in_default.keys2)

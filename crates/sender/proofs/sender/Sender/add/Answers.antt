@@ -1,0 +1,27 @@
+use borrow.Author.Tests.{not-true, not-false}
+use Rattle.lifecycle.specs.FdtCalls.{added_of}
+use Rattle.lifecycle.specs.declared.fdt.Request.{Request}
+use Rattle.lifecycle.specs.declared.fdt.Added.{Added}
+use Rattle.sender.specs.SenderCalls.{with_list, Adds}
+use Rattle.sender.specs.declared.sender.Sender.{Sender}
+use Rattle.sender.specs.declared.sender.Adding.{Adding}
+use Rattle.sender.proofs.SenderKept.{adds, add_refused, add_goes}
+use mathlib.Core.Path.{sym, ◌∙◌, ap, subst}
+use borrow.Author.Rules.{rules}
+use Rattle.sender.proofs.sender.Sender.add.Goals as goal
+
+pub returns-then-not-has_priority : goal.returns-then-not-has_priority
+returns-then-not-has_priority c =
+    let a = c.args in
+    subst (Adds a.o a.named a.self) (add_refused a.o a.named a.self (sym c.has_priority.ensures ∙ not-true _ c.if-not-has_priority.true)) (adds a.self c.requires a.o a.named)
+
+pub returns : goal.returns
+returns c =
+    let a = c.args in
+    let r = c.add_object-r.result in
+    let e = c.add_object-r.ensures ∙ ap (λ (q : Request). added_of a.self.fdt q a.named) c.request.ensures in
+    let g : Added → Adding = λ y. record { answer = y.answer; sender = with_list a.self y.fdt } in
+    let h : Sender → Adding = λ x. record { answer = r.answer; sender = x } in
+    subst (Adds a.o a.named a.self)
+    (add_goes a.o a.named a.self (sym c.has_priority.ensures ∙ not-false _ c.if-not-has_priority.false) ∙ ap g (sym e) ∙ ap h (sym c.with_fdt-self.ensures))
+    (adds a.self c.requires a.o a.named)

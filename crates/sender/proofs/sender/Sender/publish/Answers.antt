@@ -1,0 +1,16 @@
+use Rattle.lifecycle.specs.declared.fdt.Published.{Published}
+use Rattle.sender.specs.SenderCalls.{with_list, publishing_of, Publishes}
+use Rattle.sender.specs.declared.sender.Sender.{Sender}
+use Rattle.sender.specs.declared.sender.Publishing.{Publishing}
+use Rattle.sender.proofs.SenderKept.{publishes}
+use mathlib.Core.Path.{sym, ◌∙◌, ap, subst}
+use borrow.Author.Rules.{rules}
+use Rattle.sender.proofs.sender.Sender.publish.Goals as goal
+
+pub returns : goal.returns
+unfolding publishing_of
+returns c =
+    let a = c.args in
+    let g : Published → Publishing = λ r. record { answer = r.answer; sender = with_list a.self r.fdt } in
+    let h : Sender → Publishing = λ x. record { answer = c.publish-r.result.answer; sender = x } in
+    subst (Publishes a.now a.part a.self) (sym (ap g c.publish-r.ensures) ∙ ap h (sym c.with_fdt-self.ensures)) (publishes a.self c.requires a.now a.part)

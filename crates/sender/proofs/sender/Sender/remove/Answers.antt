@@ -1,0 +1,16 @@
+use Rattle.lifecycle.specs.declared.fdt.Touched.{Touched}
+use Rattle.sender.specs.SenderCalls.{with_list, removing_of, Removes}
+use Rattle.sender.specs.declared.sender.Sender.{Sender}
+use Rattle.sender.specs.declared.sender.Touching.{Touching}
+use Rattle.sender.proofs.SenderKept.{removes}
+use mathlib.Core.Path.{sym, ◌∙◌, ap, subst}
+use borrow.Author.Rules.{rules}
+use Rattle.sender.proofs.sender.Sender.remove.Goals as goal
+
+pub returns : goal.returns
+unfolding removing_of
+returns c =
+    let a = c.args in
+    let g : Touched → Touching = λ r. record { yes = r.yes; sender = with_list a.self r.fdt } in
+    let h : Sender → Touching = λ x. record { yes = c.remove_object-r.result.yes; sender = x } in
+    subst (Removes a.toi a.self) (sym (ap g c.remove_object-r.ensures) ∙ ap h (sym c.with_fdt-self.ensures)) (removes a.self c.requires a.toi)

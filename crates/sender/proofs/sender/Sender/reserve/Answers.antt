@@ -1,0 +1,16 @@
+use Rattle.lifecycle.specs.declared.fdt.Reserved.{Reserved}
+use Rattle.sender.specs.SenderCalls.{with_list, reserving_of, Reserves}
+use Rattle.sender.specs.declared.sender.Sender.{Sender}
+use Rattle.sender.specs.declared.sender.Reserving.{Reserving}
+use Rattle.sender.proofs.SenderKept.{reserves}
+use mathlib.Core.Path.{sym, ◌∙◌, ap, subst}
+use borrow.Author.Rules.{rules}
+use Rattle.sender.proofs.sender.Sender.reserve.Goals as goal
+
+pub returns : goal.returns
+unfolding reserving_of
+returns c =
+    let a = c.args in
+    let g : Reserved → Reserving = λ r. record { answer = r.answer; sender = with_list a.self r.fdt } in
+    let h : Sender → Reserving = λ x. record { answer = c.allocate_toi-r.result.answer; sender = x } in
+    subst (Reserves a.self) (sym (ap g c.allocate_toi-r.ensures) ∙ ap h (sym c.with_fdt-self.ensures)) (reserves a.self c.requires)

@@ -1,0 +1,6 @@
+use Rattle.sender.proofs.SenderKept.{totals}
+use borrow.Author.Rules.{rules}
+use Rattle.sender.proofs.sender.Sender.transfers.Goals as goal
+
+pub returns : goal.returns
+returns c = totals c.args.self c.requires c.args.toi _ c.nb_transfers.ensures

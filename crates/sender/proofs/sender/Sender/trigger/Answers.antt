@@ -1,0 +1,16 @@
+use Rattle.lifecycle.specs.declared.fdt.Touched.{Touched}
+use Rattle.sender.specs.SenderCalls.{with_list, prompting_of, Prompts}
+use Rattle.sender.specs.declared.sender.Sender.{Sender}
+use Rattle.sender.specs.declared.sender.Touching.{Touching}
+use Rattle.sender.proofs.SenderKept.{prompts}
+use mathlib.Core.Path.{sym, ◌∙◌, ap, subst}
+use borrow.Author.Rules.{rules}
+use Rattle.sender.proofs.sender.Sender.trigger.Goals as goal
+
+pub returns : goal.returns
+unfolding prompting_of
+returns c =
+    let a = c.args in
+    let g : Touched → Touching = λ r. record { yes = r.yes; sender = with_list a.self r.fdt } in
+    let h : Sender → Touching = λ x. record { yes = c.trigger_transfer_at-r.result.yes; sender = x } in
+    subst (Prompts a.toi a.start a.self) (sym (ap g c.trigger_transfer_at-r.ensures) ∙ ap h (sym c.with_fdt-self.ensures)) (prompts a.self c.requires a.toi a.start)

@@ -1,0 +1,7 @@
+use Rattle.sender.specs.SenderCalls.{request_of}
+use borrow.Author.Rules.{rules}
+use Rattle.sender.proofs.sender.request.Goals as goal
+
+pub returns : goal.returns
+unfolding request_of
+returns c = rw c.new.ensures

@@ -1,0 +1,20 @@
+use mathlib.Core.Path.{◌≡◌, refl}
+use borrow.Author.Rules.{rules}
+use Rattle.sender.specs.SessionCalls.{attended_of, ran_by}
+use Rattle.sender.specs.declared.sendersession.Outcome.{Outcome}
+use Rattle.sender.specs.declared.sendersession.Turn.{Turn}
+use Rattle.sender.proofs.SessionLaws.{not_over}
+use Rattle.sender.proofs.sendersession.SenderSession.attend.Goals as goal
+
+pub returns-in-Over : goal.returns-in-Over
+unfolding attended_of
+returns-in-Over c =
+    rw (← c.slot_at.ensures, ← c.is_forced.ensures, ← c.need_transfer_fdt.ensures, ← c.serve-r.ensures, c.in-Over.is, c.transfer_done-fdt.ensures, c.idle-self.ensures)
+
+pub returns : goal.returns
+unfolding attended_of
+returns c =
+    let a = c.args in
+    let r = c.serve-r.result in
+    rw (← c.slot_at.ensures, ← c.is_forced.ensures, ← c.need_transfer_fdt.ensures, ← c.serve-r.ensures)
+    (not_over (λ (z : Outcome). ◌≡◌ {A = Turn} (record { answer = z; fdt = a.fdt; session = r.session }) (ran_by a.now a.fdt a.self r.session z)) r.answer c.in_default.keys2 refl (λ y. refl))

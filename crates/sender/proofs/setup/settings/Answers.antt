@@ -1,0 +1,5 @@
+use borrow.Author.Rules.{rules}
+use Rattle.sender.proofs.setup.settings.Goals as goal
+
+pub returns : goal.returns
+returns c = rw (c.interval_in.ensures, c.is_interval.ensures)

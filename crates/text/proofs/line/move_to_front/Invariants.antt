@@ -1,0 +1,13 @@
+use mathlib.Core.Path.{◌≡◌, refl, ◌∙◌}
+use Prim.Native.Nat.{◌+◌, ◌-◌, ◌<◌, ◌≤◌}
+use native.Mathlib.Omega.{arith}
+use borrow.Author.Rules.{rules}
+use lib.ListN.{length, take, drop, length-set}
+use Rattle.text.proofs.Lists.{moved_front, moved_rest}
+use Rattle.text.proofs.line.move_to_front.Given as goal
+
+abbrev pub invariant-loop-i : goal.invariant-loop-i
+invariant-loop-i l = (l.i ≤ l.n) × (length l.buf ≡ length l.initial.buf) × (take l.i l.buf ≡ take l.i (drop l.from l.initial.buf)) × (drop l.i l.buf ≡ drop l.i l.initial.buf)
+
+abbrev pub decreases-loop-i : goal.decreases-loop-i
+decreases-loop-i l = l.n - l.i

@@ -1,0 +1,16 @@
+use mathlib.Core.Path.{◌≡◌}
+use Prim.Native.Nat.{◌+◌, ◌-◌, ◌≤◌}
+use native.Mathlib.Numerals.{add-one}
+use native.Mathlib.Omega.{arith}
+use borrow.Author.Rules.{rules}
+use lib.ListN.{length, take, get_or}
+use lib.Seq.{take-suc, take_all}
+use Rattle.text.specs.Put.{Appended}
+use Rattle.text.proofs.Appends.{nothing_more, byte_behind}
+use Rattle.text.proofs.put.append.Given as goal
+
+abbrev pub invariant-loop-i : goal.invariant-loop-i
+invariant-loop-i l = (l.i ≤ length l.text) × (l.end ≡ l.at + l.i) × Appended l.initial.out l.at (take l.i l.text) l.out l.end
+
+abbrev pub decreases-loop-i : goal.decreases-loop-i
+decreases-loop-i l = length l.text - l.i

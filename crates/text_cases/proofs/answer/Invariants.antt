@@ -1,0 +1,10 @@
+use Prim.Native.Nat.{◌-◌}
+use borrow.Author.Rules.{rules}
+use lib.ListN.{length}
+use Rattle.text_cases.proofs.answer.Given as goal
+
+abbrev pub invariant-loop-from : goal.invariant-loop-from
+invariant-loop-from l = Unit {0}
+
+abbrev pub decreases-loop-from : goal.decreases-loop-from
+decreases-loop-from l = length l.line - from

@@ -1,0 +1,8 @@
+use borrow.Author.Rules.{rules}
+use Rattle.text_cases.proofs.main.Given as goal
+
+abbrev pub invariant-loop-lines : goal.invariant-loop-lines
+invariant-loop-lines l = Unit {0}
+
+abbrev pub decreases-loop-lines : goal.decreases-loop-lines
+decreases-loop-lines l = l.lines.left

@@ -1,0 +1,12 @@
+use mathlib.Core.Path.{◌≡◌, subst}
+use Prim.Native.Nat.{◌+◌, ◌-◌}
+use native.Mathlib.Omega.{arith}
+use borrow.Author.Rules.{rules}
+use Rattle.wire.proofs.WordLaws.{Putting, put_none, put_one, put_all}
+use Rattle.wire.proofs.record.put.Given as goal
+
+abbrev pub invariant-loop-i : goal.invariant-loop-i
+invariant-loop-i l = Putting l.initial.out l.at l.n l.w l.out l.rest l.i
+
+abbrev pub decreases-loop-i : goal.decreases-loop-i
+decreases-loop-i l = l.i

@@ -1,0 +1,9 @@
+-- `wire::record::put_words` meets its contract: each word stands behind the one before.
+use borrow.Author.Rules.{rules}
+use Rattle.wire.proofs.WordLaws.{put_four}
+use Rattle.wire.proofs.record.put_words.Goals as goal
+
+pub returns : goal.returns
+returns c =
+    let a = c.args in
+    put_four a.out.now c.put.new.0 c.put-2.new.0 c.put-3.new.0 c.put-4.new.0 a.a a.b a.c a.d c.put.ensures c.put-2.ensures c.put-3.ensures c.put-4.ensures

@@ -1,0 +1,14 @@
+use mathlib.Core.Path.{◌≡◌, refl, sym, ◌∙◌, ap, subst}
+use Prim.Native.Nat.{◌+◌, ◌-◌, ◌*◌, ◌<◌, ◌≤◌, ◌^◌}
+use native.Mathlib.Omega.{arith}
+use borrow.Author.Rules.{rules}
+use lib.ListN.{take, drop, get_or}
+use Rattle.wire.specs.Packing.{join, number_spelled}
+use Rattle.wire.proofs.WordLaws.{word_more, word_room, word_fits}
+use Rattle.wire.proofs.record.word_at.Given as goal
+
+abbrev pub invariant-loop-i : goal.invariant-loop-i
+invariant-loop-i l = (l.i ≤ l.n) × (l.w ≡ number_spelled (take l.i (drop l.at l.bytes))) × (l.w < 2 ^ (8 * l.i))
+
+abbrev pub decreases-loop-i : goal.decreases-loop-i
+decreases-loop-i l = l.n - l.i
