@@ -6,5 +6,4 @@ use Rattle.drain_program.proofs.put.Goals as goal
 
 pub returns : goal.returns
 returns c =
-    let a = c.args in
-    field_put a.n a.mark (omega arith) (search rules) c.put_number-end.ensures c.put_text.ensures
+    field_put c.args.n c.args.mark (omega arith) (search rules) c.put_number-end.ensures c.put_text.ensures

@@ -5,30 +5,25 @@ use Rattle.fast_run.proofs.settle.Goals as goal
 
 pub returns-then-waiting-ne0 : goal.returns-then-waiting-ne0
 returns-then-waiting-ne0 c =
-    let a = c.args in
-    c.nothing.ensures ∙ sym (waits a.waiting a.now a.t a.x c.if-x.true c.if-waiting-ne0.true)
+    c.nothing.ensures ∙ sym (waits c.args.waiting c.args.now c.args.t c.args.x c.if-x.true c.if-waiting-ne0.true)
 
 pub returns-then-is_early : goal.returns-then-is_early
 returns-then-is_early c =
-    let a = c.args in
-    c.nothing-then-is_early.ensures ∙ sym (early a.waiting a.now a.t a.x c.if-x.true c.if-waiting-ne0.false (sym c.is_early.ensures ∙ c.if-is_early.true))
+    c.nothing-then-is_early.ensures ∙ sym (early c.args.waiting c.args.now c.args.t c.args.x c.if-x.true c.if-waiting-ne0.false (sym c.is_early.ensures ∙ c.if-is_early.true))
 
 pub read-r-requires : goal.read-r-requires
 read-r-requires c = c.requires.busy c.if-x.true
 
 pub returns-in_default : goal.returns-in_default
 returns-in_default c =
-    let a = c.args in
     c.nothing-in_default.ensures
-    ∙ sym (ends a.waiting a.now a.t a.x c.if-x.true c.if-waiting-ne0.false (sym c.is_early.ensures ∙ c.if-is_early.false) c.is_forced.result c.is_forced.ensures c.read-r.result c.read-r.ensures.exact c.in_default.is)
+    ∙ sym (ends c.args.waiting c.args.now c.args.t c.args.x c.if-x.true c.if-waiting-ne0.false (sym c.is_early.ensures ∙ c.if-is_early.false) c.is_forced.result c.is_forced.ensures c.read-r.result c.read-r.ensures.exact c.in_default.is)
 
 pub returns-then-x : goal.returns-then-x
 returns-then-x c =
-    let a = c.args in
     c.one.ensures ∙ rw c.ticked.ensures
-    (sym (sends a.waiting a.now a.t a.x c.if-x.true c.if-waiting-ne0.false (sym c.is_early.ensures ∙ c.if-is_early.false) c.is_forced.result c.is_forced.ensures c.read-r.result c.read-r.ensures.exact _ c.in-One.is))
+    (sym (sends c.args.waiting c.args.now c.args.t c.args.x c.if-x.true c.if-waiting-ne0.false (sym c.is_early.ensures ∙ c.if-is_early.false) c.is_forced.result c.is_forced.ensures c.read-r.result c.read-r.ensures.exact _ c.in-One.is))
 
 pub returns : goal.returns
 returns c =
-    let a = c.args in
-    c.nothing-2.ensures ∙ sym (idles a.waiting a.now a.t a.x c.if-x.false)
+    c.nothing-2.ensures ∙ sym (idles c.args.waiting c.args.now c.args.t c.args.x c.if-x.false)

@@ -8,5 +8,4 @@ use Rattle.desk_program.proofs.play.block_length.Goals as goal
 
 pub returns : goal.returns
 returns c =
-    let a = c.args in
-    c.raw_length.ensures ∙ ap (λ (p : Partition). length_shown (block_length (sizes_given p.large p.small p.nb_a_large) a.l a.e a.sbn)) c.block_partitioning-p.ensures
+    c.raw_length.ensures ∙ ap (λ (p : Partition). length_shown (block_length (sizes_given p.large p.small p.nb_a_large) c.args.l c.args.e c.args.sbn)) c.block_partitioning-p.ensures

@@ -43,4 +43,4 @@ pub returns-in-Run : goal.returns-in-Run
 returns-in-Run c = calls_of (ap call_of c.in-Run.is) c.run.ensures
 
 pub returns-in_default : goal.returns-in_default
-returns-in_default c = calls_none _ _ (asks_none c.args.c c.in_default.keys13) (search rules) c.replied-in_default.ensures (λ f. absurd (elsewhere others c.args.c AddNowhere c.in_default.keys13 tt f))
+returns-in_default c = calls_none _ _ (asks_none c.args.c c.in_default.in_default-own.keys13) (search rules) c.replied-in_default.ensures (λ f. absurd (elsewhere others c.args.c AddNowhere c.in_default.in_default-own.keys13 tt f))

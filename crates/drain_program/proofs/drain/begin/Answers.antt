@@ -17,8 +17,7 @@ returns-then-is_refused c =
 
 pub returns : goal.returns
 returns c =
-    let a = c.args in
     let e = c.new-2.ensures in
     let h = sym c.is_refused.ensures ∙ c.if-is_refused.false in
     let f : BlockEncoder → Begun = λ x. record { ok = true; encoder = x } in
-    record { exact = rw h (ap f e); valid = subst ValidEncoder (sym e) (begun_valid a.l a.e a.b a.w h) }
+    record { exact = rw h (ap f e); valid = subst ValidEncoder (sym e) (begun_valid c.args.l c.args.e c.args.b c.args.w h) }

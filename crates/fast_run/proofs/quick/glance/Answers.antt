@@ -5,13 +5,11 @@ use Rattle.fast_run.proofs.quick.glance.Goals as goal
 
 pub glance-g-requires : goal.glance-g-requires
 glance-g-requires c =
-    let a = c.args in
-    valid a.waiting a.now a.t a.x c.requires _ c.is_due.ensures c.if-is_due.true
+    valid c.args.waiting c.args.now c.args.t c.args.x c.requires _ c.is_due.ensures c.if-is_due.true
 
 pub returns-in_default : goal.returns-in_default
 returns-in_default c =
-    let a = c.args in
-    declines a.waiting a.now a.t a.x c.requires _ c.is_due.ensures c.if-is_due.true _ c.glance-g.ensures c.in_default.is _ c.no_numbers.ensures
+    declines c.args.waiting c.args.now c.args.t c.args.x c.requires _ c.is_due.ensures c.if-is_due.true _ c.glance-g.ensures c.in_default.is _ c.no_numbers.ensures
 
 -- FIXME
 add-t12 : tie.Need-overflow-add-t12
@@ -38,10 +36,8 @@ add-t14 c =
 
 pub returns-then-is_due : goal.returns-then-is_due
 returns-then-is_due c =
-    let a = c.args in
-    glances a.waiting a.now a.t a.x c.requires _ c.is_due.ensures c.if-is_due.true _ c.glance-g.ensures _ c.in-One.is _ c.ticked-after.ensures _ c.run_told.ensures
+    glances c.args.waiting c.args.now c.args.t c.args.x c.requires _ c.is_due.ensures c.if-is_due.true _ c.glance-g.ensures _ c.in-One.is _ c.ticked-after.ensures _ c.run_told.ensures
 
 pub returns : goal.returns
 returns c =
-    let a = c.args in
-    passes a.waiting a.now a.t a.x c.requires _ c.is_due.ensures c.if-is_due.false _ c.no_numbers-2.ensures
+    passes c.args.waiting c.args.now c.args.t c.args.x c.requires _ c.is_due.ensures c.if-is_due.false _ c.no_numbers-2.ensures

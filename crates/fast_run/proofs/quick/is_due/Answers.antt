@@ -12,8 +12,7 @@ returns-then-waiting-ne0 c = rw (ne_eqb _ _ c.if-waiting-ne0.true)
 
 pub returns-then-t : goal.returns-then-t
 returns-then-t c =
-    let a = c.args in
-    ap not c.is_early.ensures ∙ sym (due_by a.waiting a.now a.t a.x c.if-waiting-ne0.false c.if-x.true c.if-t.true)
+    ap not c.is_early.ensures ∙ sym (due_by c.args.waiting c.args.now c.args.t c.args.x c.if-waiting-ne0.false c.if-x.true c.if-t.true)
 
 pub returns-else-t : goal.returns-else-t
 unfolding is_due

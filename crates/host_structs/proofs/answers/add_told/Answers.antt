@@ -7,4 +7,4 @@ pub returns-in-Toi : goal.returns-in-Toi
 returns-in-Toi c = ap add_told (sym c.in-Toi.is)
 
 pub returns-in-Refused : goal.returns-in-Refused
-returns-in-Refused c = ap toi_refused c.number_of_lem.ensures ∙ ap add_told (sym c.in-Refused.is)
+returns-in-Refused c = ap toi_refused c.number_of.ensures ∙ ap add_told (sym c.in-Refused.is)

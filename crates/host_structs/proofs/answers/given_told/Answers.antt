@@ -7,4 +7,4 @@ pub returns-in-Number : goal.returns-in-Number
 returns-in-Number c = ap given_told (sym c.in-Number.is)
 
 pub returns-in-Full : goal.returns-in-Full
-returns-in-Full c = ap toi_refused c.number_of_lem.ensures ∙ ap given_told (sym c.in-Full.is)
+returns-in-Full c = ap toi_refused c.number_of.ensures ∙ ap given_told (sym c.in-Full.is)

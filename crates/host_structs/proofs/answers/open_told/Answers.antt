@@ -8,4 +8,4 @@ returns-then-ok c = rw c.if-ok.true
 
 pub returns-else-ok : goal.returns-else-ok
 unfolding open_told
-returns-else-ok c = rw c.if-ok.false c.number_of_lem.ensures
+returns-else-ok c = rw c.if-ok.false c.number_of.ensures

@@ -10,4 +10,4 @@ pub returns-in-Nothing : goal.returns-in-Nothing
 returns-in-Nothing c = c.not_sent.ensures ∙ ap (run_told _) (sym c.in-Nothing.is)
 
 pub returns-in-Refused : goal.returns-in-Refused
-returns-in-Refused c = c.not_sent-in-Refused.ensures ∙ ap (λ n. not_sent n c.args.taken) c.number_of_lem.ensures ∙ ap (run_told c.args.taken) (sym c.in-Refused.is)
+returns-in-Refused c = c.not_sent-in-Refused.ensures ∙ ap (λ n. not_sent n c.args.taken) c.number_of.ensures ∙ ap (run_told c.args.taken) (sym c.in-Refused.is)

@@ -5,8 +5,7 @@ use Rattle.lifecycle.proofs.SetupLaws.{unsound, blocks_counted}
 use Rattle.lifecycle.proofs.fdt.are_bad_blocks.Goals as goal
 
 pub returns-then-not-are_sound_sizes : goal.returns-then-not-are_sound_sizes
-returns-then-not-are_sound_sizes c = let a = c.args in sym (unsound a.z a.l (sym c.are_sound_sizes.ensures ∙ not-true _ c.if-not-are_sound_sizes.true))
+returns-then-not-are_sound_sizes c = sym (unsound c.args.z c.args.l (sym c.are_sound_sizes.ensures ∙ not-true _ c.if-not-are_sound_sizes.true))
 
 pub returns : goal.returns
-returns c = let a = c.args in
-    rw c.block_partitioning.ensures (sym (blocks_counted a.z a.l (sym c.are_sound_sizes.ensures ∙ not-false _ c.if-not-are_sound_sizes.false)))
+returns c = rw c.block_partitioning.ensures (sym (blocks_counted c.args.z c.args.l (sym c.are_sound_sizes.ensures ∙ not-false _ c.if-not-are_sound_sizes.false)))

@@ -11,10 +11,9 @@ use Rattle.lifecycle.proofs.fdt.first_startable.Goals as goal
 
 pub loop-i-init : goal.loop-i-init
 loop-i-init c =
-    let a = c.args in
-    let g : length a.t2 ≡ object_slots = c.well-formed.1.0.1.0.1 in
-    let long : a.queued ≤ length a.t2 = omega arith in
-    (long, search rules, place_start (queue_startable a.t1 a.priority a.now) a.queued a.t2 long)
+    let g : length c.args.queue ≡ object_slots = c.well_formed.1.0.1.0.1 in
+    let long : c.args.queued ≤ length c.args.queue = omega arith in
+    (long, search rules, place_start (queue_startable c.args.slots c.args.priority c.args.now) c.args.queued c.args.queue long)
 
 pub offset_bounds-slots-k : goal.offset_bounds-slots-k
 offset_bounds-slots-k c =
@@ -29,16 +28,13 @@ bounds-slots-k c =
 pub returns-then-should_transfer_now : goal.returns-then-should_transfer_now
 unfolding queue_startable
 returns-then-should_transfer_now c =
-    let a = c.args in
-    sym (place_hit (queue_startable a.t1 a.priority a.now) a.queued a.t2 c.loop-i.invariant.0 c.loop-i.i 0 (omega arith) (sym c.should_transfer_now.ensures ∙ c.if-should_transfer_now.true)) ∙ c.loop-i.invariant.2
+    sym (place_hit (queue_startable c.args.slots c.args.priority c.args.now) c.args.queued c.args.queue c.loop-i.invariant.0 c.loop-i.i 0 (omega arith) (sym c.should_transfer_now.ensures ∙ c.if-should_transfer_now.true)) ∙ c.loop-i.invariant.2
 
 pub loop-i-preserved : goal.loop-i-preserved
 unfolding queue_startable
 loop-i-preserved c =
-    let a = c.args in
-    (c.loop-i.invariant.0, search rules, sym (place_miss (queue_startable a.t1 a.priority a.now) a.queued a.t2 c.loop-i.invariant.0 c.loop-i.i 0 (omega arith) (sym c.should_transfer_now.ensures ∙ c.if-should_transfer_now.false)) ∙ c.loop-i.invariant.2)
+    (c.loop-i.invariant.0, search rules, sym (place_miss (queue_startable c.args.slots c.args.priority c.args.now) c.args.queued c.args.queue c.loop-i.invariant.0 c.loop-i.i 0 (omega arith) (sym c.should_transfer_now.ensures ∙ c.if-should_transfer_now.false)) ∙ c.loop-i.invariant.2)
 
 pub returns : goal.returns
 returns c =
-    let a = c.args in
-    sym (place_end (queue_startable a.t1 a.priority a.now) a.queued a.t2 c.loop-i.invariant.0 c.loop-i.i (omega arith)) ∙ c.loop-i.invariant.2
+    sym (place_end (queue_startable c.args.slots c.args.priority c.args.now) c.args.queued c.args.queue c.loop-i.invariant.0 c.loop-i.i (omega arith)) ∙ c.loop-i.invariant.2

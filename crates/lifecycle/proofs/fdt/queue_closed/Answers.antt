@@ -6,7 +6,7 @@ use Rattle.sizes.proofs.Arrays.{Closing, closing_starts, closing_more, closing_e
 use Rattle.lifecycle.proofs.fdt.queue_closed.Goals as goal
 
 pub loop-j-init : goal.loop-j-init
-loop-j-init c = closing_starts 0 (search rules) c.well-formed.0.1.0.1
+loop-j-init c = closing_starts 0 (search rules) c.well_formed.0.1.0.1
 
 pub loop-j-preserved : goal.loop-j-preserved
 loop-j-preserved c = closing_more 0 c.loop-j.invariant (omega arith)

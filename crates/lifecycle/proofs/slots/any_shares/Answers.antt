@@ -12,7 +12,7 @@ use Rattle.lifecycle.proofs.slots.any_shares.Goals as goal
 
 pub loop-i-init : goal.loop-i-init
 loop-i-init c =
-    let g : length c.args.slots ≡ object_slots = c.well-formed.0.1.0.1 in
+    let g : length c.args.slots ≡ object_slots = c.well_formed.0.1.0.1 in
     (omega arith, search rules, ap (any (holds_byte c.args.c)) (sym (take_all object_slots c.args.slots (omega arith))))
 
 pub returns-then-has_byte_of : goal.returns-then-has_byte_of

@@ -12,7 +12,7 @@ use Rattle.lifecycle.proofs.slots.free_slot.Goals as goal
 
 pub loop-i-init : goal.loop-i-init
 loop-i-init c =
-    let g : length c.args.slots ≡ object_slots = c.well-formed.0.1.0.1 in
+    let g : length c.args.slots ≡ object_slots = c.well_formed.0.1.0.1 in
     let long : object_slots ≤ length c.args.slots = omega arith in
     (long, search rules, place_start is_free object_slots c.args.slots long ∙ ap (place is_free) (take_all object_slots c.args.slots (omega arith)))
 

@@ -9,7 +9,7 @@ use Rattle.sizes.specs.Limits.{object_slots}
 use Rattle.lifecycle.proofs.slots.mark_published.Goals as goal
 
 pub loop-k-init : goal.loop-k-init
-loop-k-init c = (search rules, c.well-formed.0.1.0.1, refl)
+loop-k-init c = (search rules, c.well_formed.0.1.0.1, refl)
 
 pub loop-k-preserved : goal.loop-k-preserved
 loop-k-preserved c =

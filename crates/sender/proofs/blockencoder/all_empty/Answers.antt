@@ -12,7 +12,7 @@ use Rattle.sender.proofs.blockencoder.all_empty.Goals as goal
 
 pub loop-i-init : goal.loop-i-init
 loop-i-init c =
-    let g : length c.args.window ≡ largest_window = c.well-formed.1.0.1.0.1 in
+    let g : length c.args.window ≡ largest_window = c.well_formed.1.0.1.0.1 in
     (omega arith, search rules, search rules, refl)
 
 pub returns-then-not-is_empty : goal.returns-then-not-is_empty

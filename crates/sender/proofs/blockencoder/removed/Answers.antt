@@ -9,7 +9,7 @@ use Rattle.sizes.proofs.Arrays.{Closing, closing_starts, closing_more, closing_e
 use Rattle.sender.proofs.blockencoder.removed.Goals as goal
 
 pub loop-j-init : goal.loop-j-init
-loop-j-init c = closing_starts no_open (search rules) c.well-formed.0.1.0.1
+loop-j-init c = closing_starts no_open (search rules) c.well_formed.0.1.0.1
 
 pub loop-j-preserved : goal.loop-j-preserved
 loop-j-preserved c = closing_more no_open c.loop-j.invariant (omega arith)

@@ -4,4 +4,4 @@ use borrow.Author.Rules.{rules}
 use Rattle.sender.proofs.sender.run_answer.Goals as goal
 
 pub returns-in-Sent : goal.returns-in-Sent
-returns-in-Sent c = let a = c.args in ap (answer_of a.is_fdt a.toi a.fdt_id) (sym c.in-Sent.is)
+returns-in-Sent c = ap (answer_of c.args.is_fdt c.args.toi c.args.fdt_id) (sym c.in-Sent.is)

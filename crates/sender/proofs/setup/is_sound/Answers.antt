@@ -10,7 +10,7 @@ use Rattle.sender.proofs.setup.is_sound.Goals as goal
 pub returns-then-not-is_within : goal.returns-then-not-is_within
 returns-then-not-is_within c =
     let z = c.args.z in
-    sym (refused_by (setup_said z) (λ k. (passed (setup_said z) k).sessions) (few_named z (search rules) (sym c.is_Within.ensures ∙ not-true _ c.if-not-is_within.true)))
+    sym (refused_by (setup_said z) (λ k. (passed (setup_said z) k).sessions) (few_named z (search rules) (sym c.is_within.ensures ∙ not-true _ c.if-not-is_within.true)))
 
 pub returns-then-not-is_within-2 : goal.returns-then-not-is_within-2
 returns-then-not-is_within-2 c =
@@ -35,18 +35,18 @@ returns-then-z-gt-LONGEST_STORE-2 c =
 pub returns-in-Bad : goal.returns-in-Bad
 returns-in-Bad c =
     let s = setup_said c.args.z in
-    sym (refused_by s (λ k. (passed s k).width) (width_bad _ (sym c.width_of_lem.ensures ∙ c.in-Bad.is)))
+    sym (refused_by s (λ k. (passed s k).width) (width_bad _ (sym c.width_of.ensures ∙ c.in-Bad.is)))
 
 pub returns : goal.returns
 returns c =
     let z = c.args.z in
-    let o = c.well-formed in
+    let o = c.well_formed in
     let p : Passed (setup_said z) = record {
-      sessions = few_named z (search rules) (sym c.is_Within.ensures ∙ not-false _ c.if-not-is_within.false);
+      sessions = few_named z (search rules) (sym c.is_within.ensures ∙ not-false _ c.if-not-is_within.false);
       window = sym c.is_within-2.ensures ∙ not-false _ c.if-not-is_within-2.false;
       sizes = sym c.are_sound_sizes.ensures ∙ not-false _ c.if-not-are_sound_sizes.false;
       object_store = le-leb _ _ c.if-z-gt-LONGEST_STORE.false;
       fdt_store = le-leb _ _ c.if-z-gt-LONGEST_STORE-2.false;
-      width = width_has _ _ (sym c.width_of_lem.ensures ∙ c.in_default.is);
+      width = width_has _ _ (sym c.width_of.ensures ∙ c.in_default.is);
     } in
     sym (by_id (setup_said z) p (small_named z (λ i. search rules)))

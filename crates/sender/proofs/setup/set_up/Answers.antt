@@ -13,18 +13,18 @@ pub returns-in_default : goal.returns-in_default
 returns-in_default c =
     let z = c.args.z in
     let s = setup_said z in
-    subst (Opens z) (sym c.refused.ensures) (opens_not z (refused_by s (λ k. (passed s k).width) (width_bad z.width (sym c.width_of_lem.ensures ∙ c.in_default.is))))
+    subst (Opens z) (sym c.refused.ensures) (opens_not z (refused_by s (λ k. (passed s k).width) (width_bad z.width (sym c.width_of.ensures ∙ c.in_default.is))))
 
 pub open-requires : goal.open-requires
 open-requires c =
     let z = c.args.z in
     let k = sym c.is_sound.ensures ∙ c.if-is_sound.true in
-    (width_is z.width _ (sym c.width_of_lem.ensures ∙ c.in-Is.is), (told (setup_said z) k).first_id)
+    (width_is z.width _ (sym c.width_of.ensures ∙ c.in-Is.is), (told (setup_said z) k).first_id)
 
 pub returns-then-is_sound : goal.returns-then-is_sound
 returns-then-is_sound c =
     let z = c.args.z in
-    let o = c.well-formed in
+    let o = c.well_formed in
     let f : Sender → Opened = λ x. record { ok = true; sender = x } in
     subst (λ x. Opens z (f x)) (sym c.«open».ensures) (opens z (search rules) (sym c.is_sound.ensures ∙ c.if-is_sound.true))
 

@@ -22,5 +22,5 @@ pub returns-in_default : goal.returns-in_default
 unfolding width_said
 returns-in_default c =
     let n = c.args.n in
-    let r = c.in_default.rest in
+    let r = c.in_default.in_default-own.rest in
     rw (ne_eqb n 16 r.0.0.0.1, ne_eqb n 32 r.0.0.1, ne_eqb n 48 r.0.1, ne_eqb n 64 r.1)

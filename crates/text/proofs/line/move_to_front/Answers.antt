@@ -12,16 +12,15 @@ loop-i-init c = (search rules, refl, refl, refl)
 
 pub loop-i-preserved : goal.loop-i-preserved
 loop-i-preserved c =
-    let a = c.args in
-    let old = a.buf.now in
+    let old = c.args.buf.now in
     let buf = c.loop-i.buf in
     let i = c.loop-i.i in
     let size = c.loop-i.invariant.1 in
-    let within : a.from + i < length old = omega arith in (
+    let within : c.args.from + i < length old = omega arith in (
       search rules,
       length-set buf i _ ∙ size,
-      moved_front old buf a.from i size within c.loop-i.invariant.2 c.loop-i.invariant.3,
-      moved_rest old buf a.from i size within c.loop-i.invariant.3,
+      moved_front old buf c.args.from i size within c.loop-i.invariant.2 c.loop-i.invariant.3,
+      moved_rest old buf c.args.from i size within c.loop-i.invariant.3,
     )
 
 pub returns : goal.returns

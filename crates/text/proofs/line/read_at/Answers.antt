@@ -7,10 +7,9 @@ use Rattle.text.proofs.line.read_at.Goals as goal
 
 pub returns : goal.returns
 returns c =
-    let a = c.before.args in
     record {
       size = search rules;
       more = search rules;
       within = search rules;
-      front = take_put a.at (length a.buf.now - a.at) a.buf.now c.read.new.1.0 (search rules);
+      front = take_put c.args.at (length c.args.buf.now - c.args.at) c.args.buf.now c.read.new.1.0 (search rules);
     }

@@ -11,14 +11,14 @@ returns-in_default c = next_number _ _ _ (rw (← c.next_word.ensures.exact, c.i
 pub returns-in-Value : goal.returns-in-Value
 unfolding field_from field_at field_of
 returns-in-Value c =
-    next_number _ _ _ (rw (← c.next_word.ensures.exact, c.in-At.is, ← c.part.ensures, ← c.number_of_lem.ensures, c.in-Value.is))
+    next_number _ _ _ (rw (← c.next_word.ensures.exact, c.in-At.is, ← c.part.ensures, ← c.number_of.ensures, c.in-Value.is))
 
 pub returns-in-Past : goal.returns-in-Past
 unfolding field_from field_at field_of
 returns-in-Past c =
-    next_number _ _ _ (rw (← c.next_word.ensures.exact, c.in-At.is, ← c.part.ensures, ← c.number_of_lem.ensures, c.in-Past.is))
+    next_number _ _ _ (rw (← c.next_word.ensures.exact, c.in-At.is, ← c.part.ensures, ← c.number_of.ensures, c.in-Past.is))
 
 pub returns-in-Unreadable : goal.returns-in-Unreadable
 unfolding field_from field_at field_of
 returns-in-Unreadable c =
-    next_number _ _ _ (rw (← c.next_word.ensures.exact, c.in-At.is, ← c.part.ensures, ← c.number_of_lem.ensures, c.in-Unreadable.is))
+    next_number _ _ _ (rw (← c.next_word.ensures.exact, c.in-At.is, ← c.part.ensures, ← c.number_of.ensures, c.in-Unreadable.is))

@@ -8,15 +8,13 @@ use Rattle.text.proofs.word.next_word.Goals as goal
 pub returns-then-s-start : goal.returns-then-s-start
 unfolding member
 returns-then-s-start c =
-    let a = c.args in
-    let e = word_none a.s.now a.from (rw (← c.pass-start.ensures) c.if-s-start.true) in
+    let e = word_none c.args.s.now c.args.from (rw (← c.pass-start.ensures) c.if-s-start.true) in
     next_word _ _ _ (sym e)
 
 pub returns : goal.returns
 unfolding member
 returns c =
-    let a = c.args in
     let p = c.pass-start.ensures in
-    let e = word_some a.s.now a.from (rw (← p) c.if-s-start.false) in
+    let e = word_some c.args.s.now c.args.from (rw (← p) c.if-s-start.false) in
     let f = rw (← p, ← c.pass-end.ensures) at e in
     next_word _ _ _ (sym f)

@@ -21,21 +21,19 @@ overflow_cast-w c = omega (arith, c.shared_slice_known-1.given (c.args.at + c.lo
 pub overflow_add-w-in-loop-i : goal.overflow_add-w-in-loop-i
 overflow_add-w-in-loop-i c =
     let l = c.loop-i in
-    let a = c.args in
-    record { fits = word_fits l.w (get_or a.bytes.now (a.at + l.i) 0) l.i (omega arith) l.invariant.2 (omega (arith, c.shared_slice_known-1.given (a.at + l.i))) }
+    record { fits = word_fits l.w (get_or c.args.bytes.now (c.args.at + l.i) 0) l.i (omega arith) l.invariant.2 (omega (arith, c.shared_slice_known-1.given (c.args.at + l.i))) }
 
 pub loop-i-preserved : goal.loop-i-preserved
 loop-i-preserved c =
     let l = c.loop-i in
-    let a = c.args in (
+    (
       omega arith,
-      ap (λ n. n * 256 + get_or a.bytes.now (a.at + l.i) 0) l.invariant.1 ∙ sym (word_more a.bytes.now a.at l.i (omega arith)),
-      word_room l.w (get_or a.bytes.now (a.at + l.i) 0) l.i l.invariant.2 (omega (arith, c.shared_slice_known-1.given (a.at + l.i))),
+      ap (λ n. n * 256 + get_or c.args.bytes.now (c.args.at + l.i) 0) l.invariant.1 ∙ sym (word_more c.args.bytes.now c.args.at l.i (omega arith)),
+      word_room l.w (get_or c.args.bytes.now (c.args.at + l.i) 0) l.i l.invariant.2 (omega (arith, c.shared_slice_known-1.given (c.args.at + l.i))),
     )
 
 pub returns : goal.returns
 returns c =
     let l = c.loop-i in
-    let a = c.args in
-    let e : l.i ≡ a.n = omega arith in
-    (l.invariant.1 ∙ ap (λ n. number_spelled (take n (drop a.at a.bytes.now))) e, subst (λ n. l.w < 2 ^ (8 * n)) e l.invariant.2)
+    let e : l.i ≡ c.args.n = omega arith in
+    (l.invariant.1 ∙ ap (λ n. number_spelled (take n (drop c.args.at c.args.bytes.now))) e, subst (λ n. l.w < 2 ^ (8 * n)) e l.invariant.2)

@@ -7,7 +7,7 @@ pub first_startable-requires : goal.first_startable-requires
 first_startable-requires c = (c.requires.queued, queue_inside c.args.self c.requires)
 
 pub returns-in_default : goal.returns-in_default
-returns-in_default c = let a = c.args in sym (taken_none a.priority a.now a.self c.first_startable.ensures c.in_default.is)
+returns-in_default c = sym (taken_none c.args.priority c.args.now c.args.self c.first_startable.ensures c.in_default.is)
 
 pub offset_bounds-queue-n : goal.offset_bounds-queue-n
 offset_bounds-queue-n c = let h = (startable_found c.args.priority c.args.now c.args.self c.first_startable.ensures c.in-At.is c.requires).1 in search rules
@@ -20,5 +20,4 @@ taken-self-requires c = let h = startable_found c.args.priority c.args.now c.arg
     (c.requires, h.2, h.0)
 
 pub returns : goal.returns
-returns c = let a = c.args in
-    rw c.taken-self.ensures (sym (taken_some a.priority a.now a.self c.first_startable.ensures c.in-At.is))
+returns c = rw c.taken-self.ensures (sym (taken_some c.args.priority c.args.now c.args.self c.first_startable.ensures c.in-At.is))

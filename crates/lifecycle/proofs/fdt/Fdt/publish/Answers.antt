@@ -28,5 +28,4 @@ published-queued-requires c = c.requires.fdts
 
 pub returns : goal.returns
 unfolding publish_of
-returns c = let s = c.args in
-    rw (← c.are_bad_blocks.ensures, c.if-are_bad_blocks.false, ← c.bad_fdt_part.ensures, c.if-bad_fdt_part.false, ne_eqb _ _ c.if-c-eq0.false, lt-leb _ _ c.if-self-ge-WAITING_FDTS.false, c.announced-self.ensures, c.published-queued.ensures, queued_by s.now s.c s.self.announcer c.if-self-ge-WAITING_FDTS.false)
+returns c = rw (← c.are_bad_blocks.ensures, c.if-are_bad_blocks.false, ← c.bad_fdt_part.ensures, c.if-bad_fdt_part.false, ne_eqb _ _ c.if-c-eq0.false, lt-leb _ _ c.if-self-ge-WAITING_FDTS.false, c.announced-self.ensures, c.published-queued.ensures, queued_by c.args.now c.args.c c.args.self.announcer c.if-self-ge-WAITING_FDTS.false)

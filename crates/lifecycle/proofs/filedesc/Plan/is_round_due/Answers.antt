@@ -19,12 +19,10 @@ returns-then-not-x-2 c = rw (not-false c.args.self.repeats c.if-not-self.false, 
 
 pub returns-then-self : goal.returns-then-self
 unfolding round_due
-returns-then-self c = let s = c.args in
-    ap (ltb s.self.interval) c.elapsed.ensures
-    ∙ rw (not-false s.self.repeats c.if-not-self.false, not-false s.x.last_end.known c.if-not-x.false, not-false s.x.last_start.known c.if-not-x-2.false, c.if-self.true)
+returns-then-self c = ap (ltb c.args.self.interval) c.elapsed.ensures
+    ∙ rw (not-false c.args.self.repeats c.if-not-self.false, not-false c.args.x.last_end.known c.if-not-x.false, not-false c.args.x.last_start.known c.if-not-x-2.false, c.if-self.true)
 
 pub returns : goal.returns
 unfolding round_due
-returns c = let s = c.args in
-    ap (ltb s.self.interval) c.elapsed-2.ensures
-    ∙ rw (not-false s.self.repeats c.if-not-self.false, not-false s.x.last_end.known c.if-not-x.false, not-false s.x.last_start.known c.if-not-x-2.false, c.if-self.false)
+returns c = ap (ltb c.args.self.interval) c.elapsed-2.ensures
+    ∙ rw (not-false c.args.self.repeats c.if-not-self.false, not-false c.args.x.last_end.known c.if-not-x.false, not-false c.args.x.last_start.known c.if-not-x-2.false, c.if-self.false)

@@ -11,15 +11,12 @@ returns-then-not-x c = rw (not-true c.args.x.published c.if-not-x.true)
 
 pub returns-then-is_before : goal.returns-then-is_before
 unfolding may_start
-returns-then-is_before c = let s = c.args in
-    rw (not-false s.x.published c.if-not-x.false, start_said s.x.named_start s.now, ← c.is_before.ensures, c.if-is_before.true)
+returns-then-is_before c = rw (not-false c.args.x.published c.if-not-x.false, start_said c.args.x.named_start c.args.now, ← c.is_before.ensures, c.if-is_before.true)
 
 pub returns-then-x-self : goal.returns-then-x-self
 unfolding may_start
-returns-then-x-self c = let s = c.args in
-    rw (not-false s.x.published c.if-not-x.false, start_said s.x.named_start s.now, ← c.is_before.ensures, c.if-is_before.false, lt-ltb _ _ c.if-x-self.true)
+returns-then-x-self c = rw (not-false c.args.x.published c.if-not-x.false, start_said c.args.x.named_start c.args.now, ← c.is_before.ensures, c.if-is_before.false, lt-ltb _ _ c.if-x-self.true)
 
 pub returns : goal.returns
 unfolding may_start
-returns c = let s = c.args in
-    rw (← c.is_round_due.ensures, start_said s.x.named_start s.now, ← c.is_before.ensures, c.if-is_before.false, le-ltb _ _ c.if-x-self.false, not-false s.x.published c.if-not-x.false)
+returns c = rw (← c.is_round_due.ensures, start_said c.args.x.named_start c.args.now, ← c.is_before.ensures, c.if-is_before.false, le-ltb _ _ c.if-x-self.false, not-false c.args.x.published c.if-not-x.false)

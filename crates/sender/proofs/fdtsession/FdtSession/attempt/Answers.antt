@@ -8,8 +8,7 @@ use Rattle.sender.proofs.fdtsession.FdtSession.attempt.Goals as goal
 
 pub returns-then-self : goal.returns-then-self
 returns-then-self c =
-    let s = c.args in
-    c.send.ensures ∙ attempted_busy s.width s.now s.draft s.taken s.fdt s.self c.if-self.true
+    c.send.ensures ∙ attempted_busy c.args.width c.args.now c.args.draft c.args.taken c.args.fdt c.args.self c.if-self.true
 
 pub send-requires-then-n : goal.send-requires-then-n
 send-requires-then-n c =
@@ -20,13 +19,12 @@ send-requires-then-n c =
 
 pub returns-then-n : goal.returns-then-n
 returns-then-n c =
-    let s = c.args in
     let n = c.get_next_fdt_transfer-n in
-    let q = n.ensures ∙ ap (λ d. next_fdt_of s.now d s.fdt) c.left_draft.ensures in
+    let q = n.ensures ∙ ap (λ d. next_fdt_of c.args.now d c.args.fdt) c.left_draft.ensures in
     c.send-then-n.ensures
-    ∙ ap (λ c.before.before.before.before.before. fdt_sent_of s.now c.before.before.before.before.before n.result.fdt c.begin-self.result) c.either-told.ensures
-    ∙ ap (fdt_sent_of s.now (s.taken || n.result.taken) n.result.fdt) c.begin-self.ensures
-    ∙ attempted_begun s.width s.now s.draft s.taken s.fdt s.self c.if-self.false n.result q c.if-n.true
+    ∙ ap (λ c.before.before.before.before.before. fdt_sent_of c.args.now c.before.before.before.before.before n.result.fdt c.begin-self.result) c.either-told.ensures
+    ∙ ap (fdt_sent_of c.args.now (c.args.taken || n.result.taken) n.result.fdt) c.begin-self.ensures
+    ∙ attempted_begun c.args.width c.args.now c.args.draft c.args.taken c.args.fdt c.args.self c.if-self.false n.result q c.if-n.true
 
 pub send-requires-2 : goal.send-requires-2
 send-requires-2 c =
@@ -37,9 +35,8 @@ send-requires-2 c =
 
 pub returns : goal.returns
 returns c =
-    let s = c.args in
     let n = c.get_next_fdt_transfer-n in
-    let q = n.ensures ∙ ap (λ d. next_fdt_of s.now d s.fdt) c.left_draft.ensures in
+    let q = n.ensures ∙ ap (λ d. next_fdt_of c.args.now d c.args.fdt) c.left_draft.ensures in
     c.send-2.ensures
-    ∙ ap (λ c.before.before.before.before. fdt_sent_of s.now c.before.before.before.before n.result.fdt s.self) c.either-told.ensures
-    ∙ attempted_left s.width s.now s.draft s.taken s.fdt s.self c.if-self.false n.result q c.if-n.false
+    ∙ ap (λ c.before.before.before.before. fdt_sent_of c.args.now c.before.before.before.before n.result.fdt c.args.self) c.either-told.ensures
+    ∙ attempted_left c.args.width c.args.now c.args.draft c.args.taken c.args.fdt c.args.self c.if-self.false n.result q c.if-n.false

@@ -9,19 +9,16 @@ use Rattle.sender.proofs.fdtsession.FdtSession.run.Goals as goal
 
 pub attempt-requires : goal.attempt-requires
 attempt-requires c =
-    let s = c.args in
     let a = c.attempt-a in
-    round_tries s.width s.now s.draft s.fdt s.self c.requires a.result a.ensures
+    round_tries c.args.width c.args.now c.args.draft c.args.fdt c.args.self c.requires a.result a.ensures
 
 pub returns-in-Over : goal.returns-in-Over
 returns-in-Over c =
-    let s = c.args in
     let a = c.attempt-a in
-    ran_over s.width s.now s.draft s.fdt s.self a.result a.ensures c.in-Over.is c.attempt.result c.attempt.ensures
+    ran_over c.args.width c.args.now c.args.draft c.args.fdt c.args.self a.result a.ensures c.in-Over.is c.attempt.result c.attempt.ensures
 
 pub returns : goal.returns
 returns c =
-    let s = c.args in
     let a = c.attempt-a in
-    ran_once s.width s.now s.draft s.fdt s.self a.result a.ensures
-    (λ e. let t = ap (tag_of the_type) e in ⊎_elim (λ k. omega arith) (λ k. omega arith) c.in_default.keys2)
+    ran_once c.args.width c.args.now c.args.draft c.args.fdt c.args.self a.result a.ensures
+    (λ e. let t = ap (tag_of the_type) e in ⊎_elim (λ k. omega arith) (λ k. omega arith) c.in_default.in_default-own.keys2)

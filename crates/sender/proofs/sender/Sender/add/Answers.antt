@@ -12,16 +12,14 @@ use Rattle.sender.proofs.sender.Sender.add.Goals as goal
 
 pub returns-then-not-has_priority : goal.returns-then-not-has_priority
 returns-then-not-has_priority c =
-    let a = c.args in
-    subst (Adds a.o a.named a.self) (add_refused a.o a.named a.self (sym c.has_priority.ensures ∙ not-true _ c.if-not-has_priority.true)) (adds a.self c.requires a.o a.named)
+    subst (Adds c.args.o c.args.named c.args.self) (add_refused c.args.o c.args.named c.args.self (sym c.has_priority.ensures ∙ not-true _ c.if-not-has_priority.true)) (adds c.args.self c.requires c.args.o c.args.named)
 
 pub returns : goal.returns
 returns c =
-    let a = c.args in
     let r = c.add_object-r.result in
-    let e = c.add_object-r.ensures ∙ ap (λ (q : Request). added_of a.self.fdt q a.named) c.request.ensures in
-    let g : Added → Adding = λ y. record { answer = y.answer; sender = with_list a.self y.fdt } in
+    let e = c.add_object-r.ensures ∙ ap (λ (q : Request). added_of c.args.self.fdt q c.args.named) c.request.ensures in
+    let g : Added → Adding = λ y. record { answer = y.answer; sender = with_list c.args.self y.fdt } in
     let h : Sender → Adding = λ x. record { answer = r.answer; sender = x } in
-    subst (Adds a.o a.named a.self)
-    (add_goes a.o a.named a.self (sym c.has_priority.ensures ∙ not-false _ c.if-not-has_priority.false) ∙ ap g (sym e) ∙ ap h (sym c.with_fdt-self.ensures))
-    (adds a.self c.requires a.o a.named)
+    subst (Adds c.args.o c.args.named c.args.self)
+    (add_goes c.args.o c.args.named c.args.self (sym c.has_priority.ensures ∙ not-false _ c.if-not-has_priority.false) ∙ ap g (sym e) ∙ ap h (sym c.with_fdt-self.ensures))
+    (adds c.args.self c.requires c.args.o c.args.named)

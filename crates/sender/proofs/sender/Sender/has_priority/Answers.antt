@@ -19,17 +19,14 @@ loop-i-init c =
 pub returns-then-sessions-i : goal.returns-then-sessions-i
 returns-then-sessions-i c =
     let l = c.loop-i in
-    let a = c.args in
-    sym (any_hit (has_priority a.priority) a.self.count a.self.sessions l.invariant.0 l.i _ (omega arith) (eq-eqb _ _ c.if-sessions-i.true)) ∙ l.invariant.3
+    sym (any_hit (has_priority c.args.priority) c.args.self.count c.args.self.sessions l.invariant.0 l.i _ (omega arith) (eq-eqb _ _ c.if-sessions-i.true)) ∙ l.invariant.3
 
 pub loop-i-preserved : goal.loop-i-preserved
 loop-i-preserved c =
     let l = c.loop-i in
-    let a = c.args in
-    (l.invariant.0, search rules, l.invariant.2, sym (any_miss (has_priority a.priority) a.self.count a.self.sessions l.invariant.0 l.i _ (omega arith) (ne_eqb _ _ c.if-sessions-i.false)) ∙ l.invariant.3)
+    (l.invariant.0, search rules, l.invariant.2, sym (any_miss (has_priority c.args.priority) c.args.self.count c.args.self.sessions l.invariant.0 l.i _ (omega arith) (ne_eqb _ _ c.if-sessions-i.false)) ∙ l.invariant.3)
 
 pub returns : goal.returns
 returns c =
     let l = c.loop-i in
-    let a = c.args in
-    sym (any_end (has_priority a.priority) a.self.count a.self.sessions l.invariant.0 l.i (omega arith)) ∙ l.invariant.3
+    sym (any_end (has_priority c.args.priority) c.args.self.count c.args.self.sessions l.invariant.0 l.i (omega arith)) ∙ l.invariant.3

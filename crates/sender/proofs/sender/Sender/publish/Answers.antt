@@ -10,7 +10,6 @@ use Rattle.sender.proofs.sender.Sender.publish.Goals as goal
 pub returns : goal.returns
 unfolding publishing_of
 returns c =
-    let a = c.args in
-    let g : Published → Publishing = λ r. record { answer = r.answer; sender = with_list a.self r.fdt } in
+    let g : Published → Publishing = λ r. record { answer = r.answer; sender = with_list c.args.self r.fdt } in
     let h : Sender → Publishing = λ x. record { answer = c.publish-r.result.answer; sender = x } in
-    subst (Publishes a.now a.part a.self) (sym (ap g c.publish-r.ensures) ∙ ap h (sym c.with_fdt-self.ensures)) (publishes a.self c.requires a.now a.part)
+    subst (Publishes c.args.now c.args.part c.args.self) (sym (ap g c.publish-r.ensures) ∙ ap h (sym c.with_fdt-self.ensures)) (publishes c.args.self c.requires c.args.now c.args.part)

@@ -10,7 +10,6 @@ use Rattle.sender.proofs.sender.Sender.release.Goals as goal
 pub returns : goal.returns
 unfolding releasing_of
 returns c =
-    let a = c.args in
-    let g : Released → Releasing = λ r. record { answer = r.answer; sender = with_list a.self r.fdt } in
+    let g : Released → Releasing = λ r. record { answer = r.answer; sender = with_list c.args.self r.fdt } in
     let h : Sender → Releasing = λ x. record { answer = c.release_toi-r.result.answer; sender = x } in
-    subst (Releases a.toi a.self) (sym (ap g c.release_toi-r.ensures) ∙ ap h (sym c.with_fdt-self.ensures)) (releases a.self c.requires a.toi)
+    subst (Releases c.args.toi c.args.self) (sym (ap g c.release_toi-r.ensures) ∙ ap h (sym c.with_fdt-self.ensures)) (releases c.args.self c.requires c.args.toi)

@@ -10,7 +10,6 @@ use Rattle.sender.proofs.sender.Sender.remove.Goals as goal
 pub returns : goal.returns
 unfolding removing_of
 returns c =
-    let a = c.args in
-    let g : Touched → Touching = λ r. record { yes = r.yes; sender = with_list a.self r.fdt } in
+    let g : Touched → Touching = λ r. record { yes = r.yes; sender = with_list c.args.self r.fdt } in
     let h : Sender → Touching = λ x. record { yes = c.remove_object-r.result.yes; sender = x } in
-    subst (Removes a.toi a.self) (sym (ap g c.remove_object-r.ensures) ∙ ap h (sym c.with_fdt-self.ensures)) (removes a.self c.requires a.toi)
+    subst (Removes c.args.toi c.args.self) (sym (ap g c.remove_object-r.ensures) ∙ ap h (sym c.with_fdt-self.ensures)) (removes c.args.self c.requires c.args.toi)

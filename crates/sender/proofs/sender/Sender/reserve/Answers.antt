@@ -10,7 +10,6 @@ use Rattle.sender.proofs.sender.Sender.reserve.Goals as goal
 pub returns : goal.returns
 unfolding reserving_of
 returns c =
-    let a = c.args in
-    let g : Reserved → Reserving = λ r. record { answer = r.answer; sender = with_list a.self r.fdt } in
+    let g : Reserved → Reserving = λ r. record { answer = r.answer; sender = with_list c.args.self r.fdt } in
     let h : Sender → Reserving = λ x. record { answer = c.allocate_toi-r.result.answer; sender = x } in
-    subst (Reserves a.self) (sym (ap g c.allocate_toi-r.ensures) ∙ ap h (sym c.with_fdt-self.ensures)) (reserves a.self c.requires)
+    subst (Reserves c.args.self) (sym (ap g c.allocate_toi-r.ensures) ∙ ap h (sym c.with_fdt-self.ensures)) (reserves c.args.self c.requires)

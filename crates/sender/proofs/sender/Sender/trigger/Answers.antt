@@ -10,7 +10,6 @@ use Rattle.sender.proofs.sender.Sender.trigger.Goals as goal
 pub returns : goal.returns
 unfolding prompting_of
 returns c =
-    let a = c.args in
-    let g : Touched → Touching = λ r. record { yes = r.yes; sender = with_list a.self r.fdt } in
+    let g : Touched → Touching = λ r. record { yes = r.yes; sender = with_list c.args.self r.fdt } in
     let h : Sender → Touching = λ x. record { yes = c.trigger_transfer_at-r.result.yes; sender = x } in
-    subst (Prompts a.toi a.start a.self) (sym (ap g c.trigger_transfer_at-r.ensures) ∙ ap h (sym c.with_fdt-self.ensures)) (prompts a.self c.requires a.toi a.start)
+    subst (Prompts c.args.toi c.args.start c.args.self) (sym (ap g c.trigger_transfer_at-r.ensures) ∙ ap h (sym c.with_fdt-self.ensures)) (prompts c.args.self c.requires c.args.toi c.args.start)

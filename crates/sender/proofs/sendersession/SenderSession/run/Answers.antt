@@ -15,20 +15,17 @@ take_on-requires c =
 
 pub returns-in-Over : goal.returns-in-Over
 returns-in-Over c =
-    let a = c.args in
     let r = c.attend-a.result in
-    c.take_on.ensures ∙ sym (ran_busy a.width a.now a.fdt a.self c.if-self.true r c.attend-a.ensures ∙ ap (again_by a.width a.now r) c.in-Over.is)
+    c.take_on.ensures ∙ sym (ran_busy c.args.width c.args.now c.args.fdt c.args.self c.if-self.true r c.attend-a.ensures ∙ ap (again_by c.args.width c.args.now r) c.in-Over.is)
 
 pub returns-then-self : goal.returns-then-self
 returns-then-self c =
-    let a = c.args in
     let r = c.attend-a.result in
-    not_over (λ (z : Outcome). r ≡ again_by a.width a.now r z) r.answer c.in_default.keys2 refl (λ y. refl) ∙ sym (ran_busy a.width a.now a.fdt a.self c.if-self.true r c.attend-a.ensures)
+    not_over (λ (z : Outcome). r ≡ again_by c.args.width c.args.now r z) r.answer c.in_default.in_default-own.keys2 refl (λ y. refl) ∙ sym (ran_busy c.args.width c.args.now c.args.fdt c.args.self c.if-self.true r c.attend-a.ensures)
 
 pub take_on-requires-2 : goal.take_on-requires-2
 take_on-requires-2 c = (c.requires.holds, c.requires.narrow)
 
 pub returns : goal.returns
 returns c =
-    let a = c.args in
-    c.take_on-2.ensures ∙ sym (ran_idle a.width a.now a.fdt a.self c.if-self.false)
+    c.take_on-2.ensures ∙ sym (ran_idle c.args.width c.args.now c.args.fdt c.args.self c.if-self.false)

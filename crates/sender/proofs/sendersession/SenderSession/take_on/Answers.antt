@@ -13,7 +13,7 @@ unfolding taken_on_of
 returns-in_default c = rw (← c.get_next_file_transfer-t.ensures, c.in_default.is)
 
 -- what was taken
-found : (c : goal.In-At) → let a = c.args in (taken_of a.self.priority a.now a.fdt).answer ≡ At c.in-At.k
+found : (c : goal.In-At) → (taken_of c.args.self.priority c.args.now c.args.fdt).answer ≡ At c.in-At.k
 found c = ap (λ z. z.answer) (sym c.get_next_file_transfer-t.ensures) ∙ c.in-At.is
 
 in_list : (c : goal.In-At) → c.in-At.k < object_slots
@@ -25,8 +25,7 @@ slot_at-requires c = in_list c
 
 pub attend-requires : goal.attend-requires
 attend-requires c =
-    let a = c.args in
-    rw (c.begin-self.ensures, c.slot_at.ensures, c.get_next_file_transfer-t.ensures) (ready_begun a.fdt c.requires.0 a.width a.self.priority a.now _ c.requires.1 (found c.before.before))
+    rw (c.begin-self.ensures, c.slot_at.ensures, c.get_next_file_transfer-t.ensures) (ready_begun c.args.fdt c.requires.0 c.args.width c.args.self.priority c.args.now _ c.requires.1 (found c.before.before))
 
 pub returns : goal.returns
 unfolding taken_on_of
