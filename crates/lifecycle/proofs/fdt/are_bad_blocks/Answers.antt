@@ -1,6 +1,4 @@
 use mathlib.Core.Path.{sym, ◌∙◌}
-use borrow.Author.Rules.{rules}
-use borrow.Author.Tests.{not-true, not-false}
 use Rattle.lifecycle.proofs.SetupLaws.{unsound, blocks_counted}
 use Rattle.lifecycle.proofs.fdt.are_bad_blocks.Goals as goal
 

@@ -1,7 +1,5 @@
 -- `sizes::partition::block_length` meets its contract: each return is a law of `block_length`, by what the checked steps told.
-use Rattle.std.proofs.Common.{◌≡◌, ◌*◌, sym, ◌∙◌, rules}
-use Rattle.sizes.specs.Partition.{checked}
-use Rattle.sizes.specs.declared.partition.Checked.TheVariants.{Fits}
+use Rattle.std.proofs.Common.{sym, ◌∙◌}
 use Rattle.sizes.proofs.Lengths.{large_told, small_told, first_past, first_fits, small_offset_past, large_offset_past, offset_past, later_fits}
 use Rattle.sizes.proofs.partition.block_length.Goals as goal
 

@@ -1,8 +1,7 @@
 -- `sizes::partition::reached` meets its contract: each return is a law of `reach`.
-use Rattle.std.proofs.Common.{◌≡◌, ◌<◌, ℕ, false, eqb, sym, ap, ◌∙◌, ⊎_elim, arith, eqb-true}
+use Rattle.std.proofs.Common.{sym, ap, ◌∙◌, ⊎_elim, arith}
 use mathlib.Core.Option.{some}
 use native.Mathlib.Nat.{min-eq_left, min-eq_right}
-use borrow.Author.Tests.{eqb-false}
 use Rattle.sizes.proofs.Lengths.{reach_later, reach_empty, reach_some}
 use Rattle.sizes.proofs.partition.reached.Goals as goal
 

@@ -1,4 +1,4 @@
-use Rattle.std.proofs.Common.{◌+◌, ap, ◌∙◌, rules}
+use Rattle.std.proofs.Common.{◌+◌, ap, ◌∙◌}
 use Rattle.sizes.specs.Toi.{skip_zero, cut_to, after}
 use Rattle.sizes.proofs.AllocatorLaws.{cut_64}
 use Rattle.sizes.proofs.toiallocator.after.Goals as goal

@@ -1,5 +1,4 @@
 -- `wire::record::put_words` meets its contract: each word stands behind the one before.
-use borrow.Author.Rules.{rules}
 use Rattle.wire.proofs.WordLaws.{put_four}
 use Rattle.wire.proofs.record.put_words.Goals as goal
 

@@ -1,6 +1,5 @@
 -- `wire::record::read` meets its contract: what the four words hold is what the bytes hold.
-use mathlib.Core.Path.{◌≡◌, sym, ◌∙◌}
-use borrow.Author.Rules.{rules}
+use mathlib.Core.Path.{sym, ◌∙◌}
 use Rattle.wire.proofs.RecordLaws.{read_unlike, read_padded, read_bad, read_good, words_padding, words_record}
 use Rattle.wire.proofs.record.read.Goals as goal
 

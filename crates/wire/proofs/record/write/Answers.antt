@@ -1,6 +1,5 @@
 -- `wire::record::write` meets its contract: refused before a byte is touched, or the four words of the record are put.
 use mathlib.Core.Path.{sym, ◌∙◌}
-use borrow.Author.Rules.{rules}
 use Rattle.wire.proofs.RecordLaws.{write_short, write_bad, write_words}
 use Rattle.wire.proofs.record.write.Goals as goal
 

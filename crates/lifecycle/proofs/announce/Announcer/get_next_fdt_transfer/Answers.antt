@@ -1,7 +1,5 @@
 use mathlib.Core.Path.{sym, ◌∙◌}
 use native.Mathlib.Omega.{arith}
-use borrow.Author.Rules.{rules}
-use borrow.Author.Tests.{not-true, not-false}
 use Rattle.lifecycle.specs.Announce.{next_of, republished_of}
 use Rattle.lifecycle.proofs.AnnounceLaws.{needed_empty}
 use Rattle.lifecycle.proofs.announce.Announcer.get_next_fdt_transfer.Goals as goal

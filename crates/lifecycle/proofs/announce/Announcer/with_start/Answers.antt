@@ -1,4 +1,3 @@
-use borrow.Author.Rules.{rules}
 use borrow.Author.Tests.{not-true, not-false}
 use Rattle.lifecycle.specs.Announce.{start_of}
 use Rattle.lifecycle.proofs.announce.Announcer.with_start.Goals as goal

@@ -1,7 +1,5 @@
 use mathlib.Core.Path.{sym, ◌∙◌}
-use borrow.Author.Rules.{rules}
 use Rattle.lifecycle.proofs.FdtLaws.{said_some, said_none, free_found, named_unknown, named_none, named_some}
-use borrow.Author.Tests.{not-true, not-false}
 use Rattle.lifecycle.proofs.fdt.Fdt.add_named.Goals as goal
 
 pub returns-then-not-is_loose : goal.returns-then-not-is_loose

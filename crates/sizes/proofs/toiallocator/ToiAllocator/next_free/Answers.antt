@@ -1,5 +1,4 @@
-use Rattle.std.proofs.Common.{◌≡◌, sym, ◌∙◌, arith, rules}
-use Rattle.sizes.specs.Toi.{free_from, next_toi}
+use Rattle.std.proofs.Common.{sym, ◌∙◌, arith}
 use Rattle.sizes.specs.Allocator.{held}
 use Rattle.sizes.proofs.ToiLaws.{free_here, free_further, free_end}
 use Rattle.sizes.proofs.AllocatorLaws.{search_start}
