@@ -22,7 +22,7 @@ returns-then-n c =
     let n = c.get_next_fdt_transfer-n in
     let q = n.ensures ∙ ap (λ d. next_fdt_of c.args.now d c.args.fdt) c.left_draft.ensures in
     c.send-then-n.ensures
-    ∙ ap (λ c.before.before.before.before.before. fdt_sent_of c.args.now c.before.before.before.before.before n.result.fdt c.begin-self.result) c.either-told.ensures
+    ∙ ap (λ b. fdt_sent_of c.args.now b n.result.fdt c.begin-self.result) c.either-told.ensures
     ∙ ap (fdt_sent_of c.args.now (c.args.taken || n.result.taken) n.result.fdt) c.begin-self.ensures
     ∙ attempted_begun c.args.width c.args.now c.args.draft c.args.taken c.args.fdt c.args.self c.if-self.false n.result q c.if-n.true
 
@@ -38,5 +38,5 @@ returns c =
     let n = c.get_next_fdt_transfer-n in
     let q = n.ensures ∙ ap (λ d. next_fdt_of c.args.now d c.args.fdt) c.left_draft.ensures in
     c.send-2.ensures
-    ∙ ap (λ c.before.before.before.before. fdt_sent_of c.args.now c.before.before.before.before n.result.fdt c.args.self) c.either-told.ensures
+    ∙ ap (λ b. fdt_sent_of c.args.now b n.result.fdt c.args.self) c.either-told.ensures
     ∙ attempted_left c.args.width c.args.now c.args.draft c.args.taken c.args.fdt c.args.self c.if-self.false n.result q c.if-n.false

@@ -25,7 +25,7 @@ slot_at-requires c = in_list c
 
 pub attend-requires : goal.attend-requires
 attend-requires c =
-    rw (c.begin-self.ensures, c.slot_at.ensures, c.get_next_file_transfer-t.ensures) (ready_begun c.args.fdt c.requires.0 c.args.width c.args.self.priority c.args.now _ c.requires.1 (found c.before.before))
+    rw (c.begin-self.ensures, c.slot_at.ensures, c.get_next_file_transfer-t.ensures) (ready_begun c.args.fdt c.requires.0 c.args.width c.args.self.priority c.args.now _ c.requires.1 (ap (λ z. z.answer) (sym c.get_next_file_transfer-t.ensures) ∙ c.in-At.is))
 
 pub returns : goal.returns
 unfolding taken_on_of
