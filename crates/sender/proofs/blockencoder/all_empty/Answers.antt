@@ -1,10 +1,8 @@
-use lib.ListN.{length, take, drop}
-use Rattle.sizes.specs.Words.{all}
+use lib.ListN.{length}
 use Rattle.sizes.specs.Limits.{largest_window}
 use Rattle.sizes.proofs.Arrays.{all_hit, all_miss, all_end}
 use Rattle.sender.specs.EncoderCalls.{no_open, is_empty}
 use mathlib.Core.Path.{◌≡◌, refl, sym, ◌∙◌}
-use Prim.Native.Nat.{◌-◌, ◌≤◌}
 use native.Mathlib.Omega.{arith}
 use borrow.Author.Rules.{rules}
 use Rattle.sender.proofs.blockencoder.all_empty.Goals as goal

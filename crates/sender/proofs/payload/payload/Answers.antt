@@ -3,7 +3,6 @@ use Rattle.lifecycle.proofs.PartLaws.{lies_in}
 use Rattle.sender.proofs.PayloadLaws.{no_packet, of_fdt, of_object, left_out, cut_out}
 use mathlib.Core.Path.{sym, ◌∙◌}
 use native.Mathlib.Omega.{arith}
-use borrow.Author.Rules.{rules}
 use Rattle.sender.proofs.payload.payload.Goals as goal
 
 pub returns-in_default : goal.returns-in_default

@@ -3,7 +3,6 @@ use Rattle.sender.proofs.EncoderLaws.{room_told}
 use Rattle.sender.proofs.Offsets.{told}
 use mathlib.Core.Path.{refl, ap}
 use native.Mathlib.Omega.{arith}
-use borrow.Author.Rules.{rules}
 use Rattle.sender.proofs.blockencoder.BlockEncoder.read_block.Goals as goal
 
 pub overflow_add-after : goal.overflow_add-after

@@ -3,7 +3,6 @@ use Rattle.lifecycle.specs.FdtCalls.{next_fdt_of}
 use Rattle.sender.specs.FdtSessionCalls.{FdtRuns, fdt_sent_of}
 use Rattle.sender.proofs.FdtSessionLaws.{attempted_busy, attempted_left, attempted_begun, left_tries, begun_tries}
 use mathlib.Core.Path.{sym, ◌∙◌, ap, subst}
-use borrow.Author.Rules.{rules}
 use Rattle.sender.proofs.fdtsession.FdtSession.attempt.Goals as goal
 
 pub returns-then-self : goal.returns-then-self

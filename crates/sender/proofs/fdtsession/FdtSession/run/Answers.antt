@@ -1,5 +1,4 @@
 use Rattle.sender.proofs.FdtSessionLaws.{round_tries, ran_over, ran_once}
-use borrow.Author.Rules.{rules}
 use Rattle.sender.proofs.fdtsession.FdtSession.run.Goals as goal
 
 pub attempt-requires : goal.attempt-requires

@@ -1,6 +1,5 @@
 use borrow.Author.Tests.{not-true, not-false}
 use Rattle.sender.proofs.FdtSessionLaws.{sent_none, sent_over, sent_one}
-use borrow.Author.Rules.{rules}
 use Rattle.sender.proofs.fdtsession.FdtSession.send.Goals as goal
 
 pub returns-then-not-self : goal.returns-then-not-self

@@ -6,7 +6,6 @@ use Rattle.sender.specs.declared.sender.Sender.{Sender}
 use Rattle.sender.specs.declared.sender.Adding.{Adding}
 use Rattle.sender.proofs.SenderKept.{adds, add_refused, add_goes}
 use mathlib.Core.Path.{sym, ◌∙◌, ap, subst}
-use borrow.Author.Rules.{rules}
 use Rattle.sender.proofs.sender.Sender.add.Goals as goal
 
 pub returns-then-not-has_priority : goal.returns-then-not-has_priority

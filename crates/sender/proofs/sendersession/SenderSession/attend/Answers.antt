@@ -1,5 +1,4 @@
 use mathlib.Core.Path.{◌≡◌, refl}
-use borrow.Author.Rules.{rules}
 use Rattle.sender.specs.SessionCalls.{attended_of, ran_by}
 use Rattle.sender.specs.declared.sendersession.Outcome.{Outcome}
 use Rattle.sender.specs.declared.sendersession.Turn.{Turn}

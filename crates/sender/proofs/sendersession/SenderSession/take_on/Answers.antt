@@ -1,6 +1,5 @@
 use mathlib.Core.Path.{◌≡◌, sym, ◌∙◌, ap}
 use Prim.Native.Nat.{◌<◌}
-use borrow.Author.Rules.{rules}
 use Rattle.sizes.specs.Limits.{object_slots}
 use Rattle.lifecycle.specs.FdtCalls.{taken_of}
 use Rattle.sizes.specs.declared.place.Place.TheVariants.{At}
