@@ -9,7 +9,7 @@ pub overflow_add-after : goal.overflow_add-after
 overflow_add-after c =
     let x = c.args.self in
     let r = (room_told x c.requires.1).next in
-    let b = (told x.content c.requires.0.content).blocks in
+    let b = told x.content c.requires.0.content in
     let e = ap (λ p. p.blocks) c.requires.0.content.cut in
     omega arith
 
