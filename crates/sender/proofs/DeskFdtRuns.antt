@@ -40,7 +40,6 @@ use Rattle.sender.specs.declared.sendersession.Outcome.TheVariants.{Idle, Sent, 
 use Rattle.sender.specs.declared.fdtsession.FdtSession.{FdtSession}
 use Rattle.sender.specs.declared.fdtsession.FdtTurn.{FdtTurn}
 use Rattle.sender.specs.declared.sender.Sender.{Sender}
-use Rattle.sender.specs.declared.sender.RunAnswer.TheVariants as RunV
 use Rattle.sender.proofs.SessionLaws.{holds_next_fdt, holds_fdt_done}
 use Rattle.sender.proofs.FdtSessionLaws.{draft_looked}
 use Rattle.lifecycle.proofs.AnnounceKeep.{SameObjects, marked_slots}

@@ -6,7 +6,7 @@ use mathlib.Core.List.{[], ◌∷◌}
 use Prim.Native.Nat.{ℕ, ◌≤◌, ◌<◌}
 use lib.Dec.{ltb}
 use borrow.Author.Tests.{ltb-true, ltb-false}
-use Rattle.sizes.specs.Words.{if◌then◌else◌, given, has, first_of}
+use Rattle.sizes.specs.Words.{if◌then◌else◌, has, first_of}
 use Rattle.sizes.specs.Limits.{toi_entries}
 use Rattle.sizes.specs.Allocator as Alloc
 use Rattle.sizes.specs.declared.toiallocator.ToiAllocator.{ToiAllocator}

@@ -1,14 +1,11 @@
 -- The payload of a run's answer, case by case.
-use mathlib.Core.Logic.{inl, inr}
 use mathlib.Core.Path.{◌≡◌, refl, sym, ◌∙◌, ap}
 use mathlib.Core.Bool.{true, false}
 use mathlib.Core.Option.{none, some}
-use mathlib.Core.List.{[], ◌∷◌}
+use mathlib.Core.List.{[]}
 use Prim.Native.Nat.{◌+◌, ◌-◌}
 use native.Mathlib.Omega.{arith}
 use lib.ListN.{length, take, drop}
-use types.Run.{OneOf}
-use denote.Enum.Declared.{tag_of}
 use Rattle.sizes.specs.Words.{if◌then◌else◌, maybe}
 use Rattle.lifecycle.specs.Parts.{past_store}
 use Rattle.lifecycle.specs.declared.parts.Part.{Part}
@@ -17,13 +14,11 @@ use Rattle.sender.specs.SenderCalls.{packet_said, packet_in}
 use Rattle.sender.specs.declared.sender.Packet.{Packet}
 use Rattle.sender.specs.declared.sender.RunAnswer.{RunAnswer}
 use Rattle.sender.specs.declared.sender.RunAnswer.TheVariants as RunV
-use Rattle.sender.specs.contracts.sender.RunAnswer.{the_type}
 
--- an answer of every kind but the first has no packet
-pub no_packet : (m : Stores) (a : RunAnswer) → OneOf (1 ∷ 2 ∷ []) (tag_of the_type a) → [] ≡ payload_of m (packet_in a)
+-- an answer that is no packet's has no packet
+pub no_packet : (m : Stores) (a : RunAnswer) → ((p : Packet) → a ≡ RunV.Packet p → ⊥) → [] ≡ payload_of m (packet_in a)
 unfolding payload_of place_of
-no_packet m (RunV.Packet p) (inl h) = absurd (omega arith)
-no_packet m (RunV.Packet p) (inr h) = absurd (omega arith)
+no_packet m (RunV.Packet p) h = absurd (h p refl)
 no_packet m RunV.Nothing h = refl
 no_packet m (RunV.Refused why) h = refl
 

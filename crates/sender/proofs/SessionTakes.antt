@@ -4,7 +4,7 @@ use mathlib.Core.Bool.{Bool, true, false}
 use mathlib.Core.Option.{Option, none, some}
 use mathlib.Core.List.{List, [], ◌∷◌, map}
 use Prim.Native.Nat.{ℕ, suc, ◌≤◌}
-use Rattle.sizes.specs.Words.{if◌then◌else◌, over, at, cut, find, drop_first}
+use Rattle.sizes.specs.Words.{if◌then◌else◌, over, at, find, drop_first}
 use Rattle.sizes.specs.Limits.{largest_window}
 use Rattle.sizes.proofs.Tests.{none≢some}
 use Rattle.sizes.proofs.Lists.{at_map}
