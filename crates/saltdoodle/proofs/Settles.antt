@@ -32,7 +32,6 @@ use Rattle.sender.specs.declared.sender.Running.{Running}
 use Rattle.sender.specs.declared.sender.Sender.{Sender}
 use Rattle.sender.proofs.SenderKept.{runs, run_goes, ran_sender}
 use Rattle.host_structs.specs.Answers.{run_told}
-use Rattle.host_structs.specs.declared.answers.Sent.{Sent}
 use Rattle.fast_run.specs.Settle.{ValidSession, settled_as, settled_by, settled_of}
 use Rattle.fast_run.specs.declared.Settled.{Settled}
 use Rattle.fast_run.specs.Quick.{Quick, stepped}
@@ -182,4 +181,4 @@ pub changed_thrice : {X : Type 0} (l : List X) (i : ℕ) (d : X) (f g h : X → 
 changed_thrice l i d f g h lt =
     let a = get_or-set_same l i (f (get_or l i d)) d lt in
     let b = get_or-set_same (set l i (f (get_or l i d))) i (g (get_or (set l i (f (get_or l i d))) i d)) d (omega (arith, length-set l i (f (get_or l i d)))) in
-    rw (b, a, set-set, set-set)
+    rw (b, a) (simp set-set)

@@ -2,11 +2,8 @@
 use mathlib.Core.Path.{sym, subst}
 use mathlib.Core.Bool.{false}
 use mathlib.Core.List.{List, []}
-use Prim.Native.Nat.{ℕ}
 use native.Mathlib.Omega.{arith}
-use lib.ListN.{get_or, set}
 use Rattle.sizes.specs.Partition.{sbn, no_blocks}
-use Rattle.sizes.specs.declared.numbers.Esi.{Esi}
 use Rattle.lifecycle.specs.FileDesc.{no_pace}
 use Rattle.sender.specs.declared.sendersession.SenderSession.{SenderSession}
 use Rattle.fast_run.specs.Quick.{with_esi, with_index, with_encoder, with_due}
