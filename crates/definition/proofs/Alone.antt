@@ -10,7 +10,6 @@ use borrow.Author.Tests.{eqb-true, eq-eqb, ne_eqb, leb-false, lt-leb}
 use lib.ListN.{length}
 use Rattle.sizes.specs.Words.{if◌then◌else◌, maybe, given, any, at, over, Each}
 use Rattle.sizes.specs.declared.refusal.Refusal.{Refusal}
-use Rattle.sizes.specs.declared.refusal.Refusal.TheVariants as Because
 use Rattle.sizes.specs.Limits.{object_slots}
 use Rattle.lifecycle.specs.Parts.{shares, past_store}
 use Rattle.lifecycle.specs.declared.parts.Part.{Part}

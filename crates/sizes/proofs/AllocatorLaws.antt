@@ -8,7 +8,7 @@ use lib.Seq.{take-set-lt}
 use Rattle.sizes.specs.Words.{if◌then◌else◌, maybe, over, given, cut, place, collect, Each, has, one_if, times}
 use Rattle.sizes.specs.Limits.{toi_entries}
 use Rattle.sizes.specs.Toi.{skip_zero, cut_to, first_toi, after, free_from, next_toi, Toi}
-use Rattle.sizes.specs.Allocator.{bits, Width, noted, held, loose_in, loose, no_entry, entry_is, new_allocator, noting, moved_on, allocated_of, bound_at, Fresh, entry_gone, unchanged, changed, claimed_of, dropped_of, ValidAllocator, Searchable, Opened, Gives, Becomes}
+use Rattle.sizes.specs.Allocator.{bits, Width, noted, held, loose_in, no_entry, entry_is, new_allocator, noting, moved_on, allocated_of, bound_at, Fresh, entry_gone, unchanged, changed, claimed_of, dropped_of, ValidAllocator, Searchable, Opened, Gives, Becomes}
 use Rattle.sizes.specs.declared.toiallocator.ToiMaxLength.{ToiMaxLength}
 use Rattle.sizes.specs.declared.toiallocator.ToiMaxLength.TheVariants.{ToiMax16, ToiMax32, ToiMax48, ToiMax64}
 use Rattle.sizes.specs.declared.toiallocator.Entry.{Entry}
