@@ -13,8 +13,8 @@ use Rattle.text.proofs.LineLaws.{starts_self, starts_refilled, taken}
 use Rattle.text.proofs.line.take_from.Given as goal
 
 abbrev pub invariant-loop-end : goal.invariant-loop-end
-invariant-loop-end l =
+invariant-loop-end g l =
     (l.at ≤ l.end) × (l.end ≤ length l.buf) × (length l.buf ≡ length l.initial.buf) × StartsWith (part l.from l.to l.initial.buf) (part l.at l.end l.buf) × (l.ended ≡ false)
 
 abbrev pub decreases-loop-end : goal.decreases-loop-end
-decreases-loop-end l = length l.buf - (l.end - l.at)
+decreases-loop-end g l = length l.buf - (l.end - l.at)

@@ -20,15 +20,15 @@ loop-i-init c = (search rules, omega arith, refl, refl)
 
 pub returns-then-not-is_digit : goal.returns-then-not-is_digit
 returns-then-not-is_digit c =
-    sym (number_none _ (c.loop-i.invariant.2 ∙ digits_stop _ c.loop-i.i (omega arith) (sym c.is_digit.ensures ∙ not-true _ c.if-not-is_digit.true)))
+    sym (number_none _ (c.loop-i.invariant.2 ∙ digits_stop _ c.loop-i.i (omega arith) (sym c.is_digit.ensures ∙ c.if-not-is_digit.true)))
 
 pub with_digit-n-requires : goal.with_digit-n-requires
-with_digit-n-requires c = sym c.is_digit.ensures ∙ not-false _ c.if-not-is_digit.false
+with_digit-n-requires c = sym c.is_digit.ensures ∙ c.if-not-is_digit.false
 
 pub loop-i-preserved : goal.loop-i-preserved
 loop-i-preserved c =
     let w = c.args.w.now in
-    let d = sym c.is_digit.ensures ∙ not-false _ c.if-not-is_digit.false in (
+    let d = sym c.is_digit.ensures ∙ c.if-not-is_digit.false in (
       omega arith,
       c.loop-i.invariant.1,
       c.loop-i.invariant.2 ∙ digits_more w c.loop-i.i (omega arith) d,

@@ -9,4 +9,4 @@ pub returns : goal.returns
 unfolding decimal
 returns c =
     let n = c.args.n in
-    rw (counted n n c.decimal-k.result (omega arith) c.decimal-k.ensures.1.0, ← c.decimal-k.ensures.1.1) c.put_text.ensures
+    rw (counted n n c.decimal-k.result (omega arith) c.decimal-k.ensures.len, ← c.decimal-k.ensures.digits) c.put_text.ensures
