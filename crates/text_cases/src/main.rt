@@ -1,6 +1,7 @@
 // Reads lines from standard input and writes, for each, the numbers that its words are, with spaces between
 // them: `past` for a numeral of 2^64 or more, `unreadable` for a word that is no numeral.
 #![tactic(auto)]
+
 ghost use Rattle.std.specs.Prelude.{◌<◌, length};
 
 use std::io::Write;

@@ -1,6 +1,5 @@
 -- `text::bytes::part` meets its contract: the two tests say which case of `part` holds.
 use mathlib.Core.Path.{sym}
-use borrow.Author.Rules.{rules}
 use Rattle.text.proofs.Lists.{part_in, part_turned, part_past}
 use Rattle.text.proofs.bytes.part.Goals as goal
 

@@ -1,11 +1,6 @@
 -- `text::bytes::pass` meets its contract. The invariant: the run that is looked for ends where the run from i on ends.
-use mathlib.Core.Path.{◌≡◌, refl, sym, ◌∙◌}
-use Prim.Native.Nat.{◌-◌}
+use mathlib.Core.Path.{refl, sym, ◌∙◌}
 use native.Mathlib.Omega.{arith}
-use borrow.Author.Tests.{not-true, not-false}
-use borrow.Author.Rules.{rules}
-use lib.ListN.{length}
-use Rattle.text.specs.Bytes.{member, pass}
 use Rattle.text.proofs.Lists.{pass_more, pass_stop, pass_end}
 use Rattle.text.proofs.bytes.pass.Goals as goal
 

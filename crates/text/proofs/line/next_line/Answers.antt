@@ -1,6 +1,5 @@
 -- `text::line::next_line` meets its contract.
 use native.Mathlib.Omega.{arith}
-use borrow.Author.Rules.{rules}
 use Rattle.text.proofs.line.next_line.Goals as goal
 
 pub returns-then-at : goal.returns-then-at

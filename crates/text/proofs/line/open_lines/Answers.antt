@@ -1,5 +1,4 @@
 -- `text::line::open_lines` meets its contract.
-use borrow.Author.Rules.{rules}
 use Rattle.text.proofs.line.open_lines.Goals as goal
 
 pub returns : goal.returns

@@ -1,13 +1,12 @@
 -- `text::line::take_from` meets its contract. The invariant: at..end of the buffer starts with what was pending at entry. The measure is the room that is left.
 use mathlib.Core.Path.{◌≡◌, refl, ◌∙◌, ap}
-use Prim.Native.Nat.{ℕ, ◌-◌, ◌≤◌}
+use Prim.Native.Nat.{ℕ, ◌-◌}
 use native.Mathlib.Omega.{arith}
 use borrow.Author.Rules.{rules}
 use mathlib.Core.Bool.{Bool, true, false}
 use mathlib.Core.Logic.{inl, inr}
 use lib.ListN.{length}
-use Rattle.text.specs.Bytes.{part}
-use Rattle.text.specs.Lines.{StartsWith, line_from}
+use Rattle.text.specs.Lines.{line_from}
 use Rattle.text.specs.declared.line.Input.{Input}
 use Rattle.text.proofs.Lists.{part_length}
 use Rattle.text.proofs.LineLaws.{starts_self, starts_refilled, taken}

@@ -1,13 +1,12 @@
 -- `text::number::number_of` meets its contract. The invariant: the bytes before i are digits, and n is what they stand for.
-use mathlib.Core.Path.{◌≡◌, refl, sym, ◌∙◌, ap}
-use Prim.Native.Nat.{ℕ, ◌-◌, ◌<◌, ◌≤◌}
+use mathlib.Core.Path.{refl, sym, ◌∙◌, ap}
+use Prim.Native.Nat.{ℕ}
 use native.Mathlib.Omega.{arith}
-use borrow.Author.Tests.{not-true, not-false}
 use borrow.Author.Rules.{rules}
-use lib.ListN.{length, take, drop}
+use lib.ListN.{take}
 use lib.Seq.{take_all}
 use mathlib.Core.List.{List}
-use Rattle.text.specs.Numbers.{all_digits, value_from, in_width}
+use Rattle.text.specs.Numbers.{value_from, in_width}
 use Rattle.text.proofs.Numbers.{value_more, digits_more, digits_stop, digits_end, number_empty, number_none, number_some}
 use Rattle.text.proofs.number.number_of.Goals as goal
 

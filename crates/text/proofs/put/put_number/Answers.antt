@@ -1,6 +1,5 @@
 -- `text::put::put_number` meets its contract: the digits are as many as the number has.
 use native.Mathlib.Omega.{arith}
-use borrow.Author.Rules.{rules}
 use Rattle.text.specs.Put.{decimal}
 use Rattle.text.proofs.Appends.{counted}
 use Rattle.text.proofs.put.put_number.Goals as goal
