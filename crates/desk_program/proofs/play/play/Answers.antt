@@ -4,7 +4,7 @@ use borrow.Author.Rules.{rules}
 use mathlib.Core.List.{[], ◌∷◌}
 use Rattle.desk_program.specs.Plays.{call_of, alone, reply_with}
 use Rattle.desk_program.specs.declared.command.Command.TheVariants.{AddNowhere}
-use Rattle.desk_program.proofs.PlayLaws.{still, answers_none, elsewhere, set_up_answered, set_up_out, wrong_answered, no_set_up, stays_as, stays_none, calls, not_alone}
+use Rattle.desk_program.proofs.PlayLaws.{still, answers_none, elsewhere, set_up_answered, set_up_out, wrong_answered, no_set_up, not_set_up, stays_as, stays_none, not_alone}
 use Rattle.desk_program.proofs.play.play.Goals as goal
 
 pub returns-in-Skip : goal.returns-in-Skip
@@ -79,4 +79,8 @@ returns-in-ReadRecord c = (
 
 pub returns-in_default : goal.returns-in_default
 returns-in_default c =
-    (c.called.ensures, no_set_up calls c.args.c c.in_default.in_default-own.keys11 tt tt tt, stays_none (not_alone c.args.c c.in_default.in_default-own.keys11))
+    let n = c.in_default in (
+      c.called.ensures,
+      not_set_up n.not-Setup n.not-SetupOut n.not-Wrong,
+      stays_none (not_alone c.args.c n.not-Skip n.not-Partition n.not-BlockLength n.not-RawLength n.not-Drain n.not-WriteRecord n.not-ReadRecord),
+    )
