@@ -4,7 +4,7 @@ use mathlib.Core.Bool.{true, false, ◌||◌}
 use Prim.Native.Nat.{ℕ, ◌≤◌, ◌<◌}
 use native.Mathlib.Omega.{arith}
 use borrow.Author.Tests.{eq-eqb}
-use Rattle.sizes.specs.Words.{if◌then◌else◌}
+use Rattle.sizes.specs.Words.{when◌then◌else◌}
 use Rattle.sizes.specs.Limits.{object_slots, largest_window, longest_store}
 use Rattle.sizes.proofs.Tables.{inside}
 use Rattle.lifecycle.specs.FileDesc.{with_life}
@@ -133,9 +133,9 @@ module _ (w now : ℕ) (f : Fdt) (x : SenderSession) where
   pub ran_busy : x.busy ≡ true → (a : Turn) → a ≡ attended_of now f x → ran_of w now f x ≡ again_by w now a a.answer
   unfolding ran_of
   ran_busy e a h =
-      ap (λ b. if b then again_by w now (attended_of now f x) (attended_of now f x).answer else taken_on_of w now f x) e
+      ap (λ b. when b then again_by w now (attended_of now f x) (attended_of now f x).answer else taken_on_of w now f x) e
       ∙ ap (λ (r : Turn). again_by w now r r.answer) (sym h)
 
   pub ran_idle : x.busy ≡ false → ran_of w now f x ≡ taken_on_of w now f x
   unfolding ran_of
-  ran_idle e = ap (λ b. if b then again_by w now (attended_of now f x) (attended_of now f x).answer else taken_on_of w now f x) e
+  ran_idle e = ap (λ b. when b then again_by w now (attended_of now f x) (attended_of now f x).answer else taken_on_of w now f x) e
