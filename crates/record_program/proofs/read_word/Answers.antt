@@ -38,4 +38,4 @@ returns-in_default c = λ short.
 
 pub returns : goal.returns
 returns c = λ short.
-    spells (c.read-hex.ensures (omega arith)) _ c.n.given.1 c.part.ensures c.read.ensures
+    spells (c.read_hex.ensures (omega arith)) _ c.in-Bytes.is c.part.ensures c.read.ensures

@@ -14,9 +14,9 @@ loop-i-init c = (search rules, search rules, λ k h. absurd (omega arith))
 pub loop-i-preserved : goal.loop-i-preserved
 loop-i-preserved c =
     let h : c.loop-i.i < length c.loop-i.store = omega arith in (
-      length-set c.loop-i.store c.loop-i.i c.IsStore-byte.result ∙ c.loop-i.invariant.0,
-      rw (length-set c.loop-i.store c.loop-i.i c.IsStore-byte.result) (omega arith),
-      one_more (byte_at c.args.is_fdt) c.loop-i.store c.loop-i.i c.IsStore-byte.result h c.IsStore-byte.ensures c.loop-i.invariant.2,
+      length-set c.loop-i.store c.loop-i.i c.store_byte.result ∙ c.loop-i.invariant.0,
+      rw (length-set c.loop-i.store c.loop-i.i c.store_byte.result) (omega arith),
+      one_more (byte_at c.args.is_fdt) c.loop-i.store c.loop-i.i c.store_byte.result h c.store_byte.ensures c.loop-i.invariant.2,
     )
 
 pub returns : goal.returns
