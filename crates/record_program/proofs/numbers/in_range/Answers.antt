@@ -1,7 +1,6 @@
 -- `record_program::numbers::in_range` meets its contract, number by number.
 use mathlib.Core.Path.{sym}
 use native.Mathlib.Omega.{arith}
-use borrow.Author.Rules.{rules}
 use Rattle.record_program.proofs.NumberLaws.{unfit, but_room}
 use Rattle.record_program.proofs.numbers.in_range.Goals as goal
 
