@@ -11,11 +11,11 @@ use Prim.Native.Nat.{ℕ}
 use mathlib.Core.List.{[], ◌∷◌, List}
 use lib.Dec.{T}
 use seplogic.Ra.Ura.{Ura}
-use seplogic.Ra.TreeShare.{full_share}
-use mir.Syntax.{Ty, Sym, Name, Fn, Width, ty_unit, ty_ref, ty_struct, tcons, tnil, named, mut, imm, local, value_local, place, deref, field, copy, opd_unit, rv_opd, assign, call, seq, return}
+use base.Fraction.{full_share}
+use mir.Syntax.{Ty, Sym, Callee, Fn, Width, ty_unit, ty_ref, ty_struct, tcons, tnil, named, mut, imm, local, value_local, place, deref, field, copy, opd_unit, rv_opd, assign, call, seq, return}
 use mir.Val.{Val, vint, vbool, vptr, vunit, vstruct, vcons, vnil, WT, has_ty}
 use base.Logic.{SProp, ent, sep, guard, id⊢, snd∗, ex_e}
-use base.Fml.{GName, Lft, Share, ftrue, flft, fobs, fbor, fres, fshr_bor, fat}
+use base.Fml.{GName, Lft, Share, ftrue, flft, fobs, fbor, fat}
 use prog.Wp.{Calls, Loops, WpFn, Tables}
 use types.Logic.{Logic, sem}
 use contract.Monad.{fact}
@@ -24,14 +24,14 @@ use types.Run.{look, store, init, forget, stop, hop, fld, from, load, unit_lit, 
 use types.Part.{whole, sub, look_in}
 use types.SemTy.{Body}
 use types.Mut.{open_ref, close_ref}
-use types.Tokens.{obor_close, shr_bor_dup, shr_bor-open}
 use sound.WpLaws.{FmC, fm_of, WpFn-mono}
 use denote.RattleType.{RattleType, owns}
-use denote.Laws.{Is, shows, Tells, Makes, Copy}
-use denote.Memory.{mem, part_at, part-halves, lone, pointee}
+use denote.Laws.{Is, shows, Tells, Makes}
+use denote.Memory.{mem, part_at, lone, pointee, shared_of, hidden_shr}
+use denote.Opens.{Opens, twice_dup, shr_open, shr_Shut}
 use denote.Plain.{UInt, uint_Tells, uint_Makes, uint_Lawful, Boolean, bool_Tells, bool_Makes, bool_Lawful, Nothing, Nothing-Makes}
 use denote.Exit.{Last, left, yes}
-use denote.Ref.{MutBor, MutRef, ShrRef, shr_vals, mut_vals, mut_Tells, shr_Tells}
+use denote.Ref.{Bor, MutBor, MutRef, ShrRef, shr_vals, mut_vals, mut_Tells, shr_Tells}
 use denote.Signature.{plain, mut_ref_to, shr_ref_to}
 use denote.Steps.{owned, peeks, heard, nothing, only}
 use denote.Struct.Struct.{Plains}
@@ -85,7 +85,7 @@ pub record Pair {M : Type 1} {𝓤 : Ura M} (𝓛 : Logic 𝓤) {S P : RattleTyp
 module _ {M : Type 1} {𝓤 : Ura M} (𝓛 : Logic 𝓤) (R : RattleType) (D : Data 𝓛 R) (q : Share) (y : R.Denot) (b o : ℕ) where
   pub cell_of : ent 𝓤 (sem 𝓛 (part_at R q y b o)) (guard 𝓤 (Is R y (D.mach y ∷ [])) (sem 𝓛 (fat q (lone R.mir) b o (D.mach y))))
   cell_of = qed 𝓛 (‵ (part_at R q y b o) ∷ []) {P = guard 𝓤 (Is R y (D.mach y ∷ [])) (sem 𝓛 (fat q (lone R.mir) b o (D.mach y)))} (
-      use1 𝓛 (some (λ (w : Val). ‵ (fat q (lone R.mir) b o w) ⊛ ‵ (R.own y (w ∷ [])))) (part_out 𝓛 R D.one q y b o) $ pick ! (λ w. split ! $ move ! (1 ∷ []) $
+      use1 𝓛 (some (λ (w : Val). ‵ (fat q (lone R.mir) b o w) ⊛ ‵ (R.own_val y (w ∷ [])))) (part_out 𝓛 R D.one q y b o) $ pick ! (λ w. split ! $ move ! (1 ∷ []) $
       peeks ! R (Is R) (shows 𝓛 R) y (w ∷ []) (λ is. check ! (subst (λ (ws : List Val). Is R y ws) (D.tells y (w ∷ []) is) is) $
       rewrite ! 1 (λ (cv : Val). ‵ (fat q (lone R.mir) b o cv)) (ap only (D.tells y (w ∷ []) is)) refl $ keep ! (1 ∷ []) $ done !)))
 
@@ -102,10 +102,12 @@ module _ {M : Type 1} {𝓤 : Ura M} (𝓛 : Logic 𝓤) (R : RattleType) (D : D
   told_typed v gs = subst (λ (u : Val). T (has_ty (lone R.mir) u) × WT u) (sym (ap only (D.tells y (v ∷ []) gs))) (D.typed y (told v gs))
 
 -- ---- 0 arguments, and no answer
-abbrev pub done₀_fn : (ref state : Ty) (f : Name) → Fn
+abbrev pub done₀_fn : (ref state : Ty) (f : Callee) → Fn
 done₀_fn ref state f = record {
   lifetimes = 1;
   outlives = [];
+  ty_params = [];
+  givens = 0;
   params = 1;
   locals = local ty_unit value_local ∷ local ref value_local ∷ local state value_local ∷ local state value_local ∷ [];
   body = seq (assign (place 3 []) (rv_opd (copy (place 1 (deref state ∷ []))))) (seq (call f (copy (place 3 []) ∷ []) (place 2 [])) (seq (assign (place 1 (deref state ∷ [])) (rv_opd (copy (place 2 [])))) (seq (assign (place 0 []) (rv_opd opd_unit)) return)));
@@ -161,7 +163,7 @@ module _ (S : RattleType) {M : Type 1} {𝓤 : Ura M} (𝓛 : Logic 𝓤) (D : D
       done₀_hears : (r : S.Denot) → ent 𝓤 (ensured 𝓛 (done₀_value_ended S) done₀_value_clauses tt (h, tt) tt r) (fact 𝓤 (Ens h r))
       done₀_hears r = ex_e 𝓤 _ (λ ws. snd∗ 𝓤 (sem 𝓛 (lasts (done₀_value_ended S) tt (h, tt) ws)) (fact 𝓤 (Ens h r)))
 
-      module _ (C : Calls 𝓤 H) (Λ : Loops 𝓤 H) (fm : FmC 𝓤 H 𝓛.laws C) (f : Name) (known : Triple 𝓤 (C f) done₀_value) where
+      module _ (C : Calls 𝓤 H) (Λ : Loops 𝓤 H) (fm : FmC 𝓤 H 𝓛.laws C) (f : Callee) (known : Triple 𝓤 (C f) done₀_value) where
         done₀_walk : ent 𝓤 (sep 𝓤 (on_entry 𝓛 (done₀_ended S).signature (κ, tt) (q, tt) done₀_passed done₀_at) (Req h)) (WpFn 𝓤 H C Λ (done₀_fn (ty_ref (named 0) mut (pointee S.written)) (lone S.mir) f) (vptr b o ∷ []) done₀_post)
         done₀_walk =
             qed 𝓛 (((‵ (flft κ q) ⊛ ‵ ftrue) ⊛ ‵ (owns (MutRef (named 0) κ S ∷ []) done₀_passed done₀_at)) ∷ raw (Req h) ∷ []) ∵ split ! $ split ! $ move ! (2 ∷ []) $ fsplit ! $ fsplit3 ! $ drop ! $ keep ! (0 ∷ 1 ∷ 3 ∷ 5 ∷ []) $
@@ -173,7 +175,7 @@ module _ (S : RattleType) {M : Type 1} {𝓤 : Ura M} (𝓛 : Logic 𝓤) (D : D
             assigns ! (of_opd ! (load ! (from ! (hop ! (look ! 8 refl) (stop !))) (look ! 0 refl))) (from ! (stop !)) (init ! 4 refl (D.typed h is)) $
             move ! (12 ∷ []) $ use1 𝓛 (raw (done₀_value.pre done₀_called)) (done₀_calls is) $
             calls_from ! fm (raw (done₀_value.pre done₀_called)) (D.mach h ∷ []) (done₀_value.post done₀_called) (known done₀_called) (and_then ! (load ! (from ! (stop !)) (look ! 5 refl)) (no_more !)) (λ v.
-            use1 𝓛 (later (some (λ (r : S.Denot). (‵ ftrue ⊛ ‵ (S.own r (v ∷ []))) ⊛ raw (ensured 𝓛 (done₀_value_ended S) done₀_value_clauses tt (h, tt) tt r)))) (id⊢ 𝓤 _) $ await ! tt $ pick ! (λ r.
+            use1 𝓛 (later (some (λ (r : S.Denot). (‵ ftrue ⊛ ‵ (S.own_val r (v ∷ []))) ⊛ raw (ensured 𝓛 (done₀_value_ended S) done₀_value_clauses tt (h, tt) tt r)))) (id⊢ 𝓤 _) $ await ! tt $ pick ! (λ r.
             split ! $ move ! (1 ∷ []) $ use1 𝓛 (raw (fact 𝓤 (Ens h r))) (done₀_hears r) $ heard ! (Ens h r) (λ e. split ! $ drop ! $
             peeks ! S (Is S) (shows 𝓛 S) r (v ∷ []) (λ gs.
             land ! (from ! (stop !)) (init ! 7 refl (told_typed 𝓛 S D r v gs)) $ drop ! $
@@ -189,19 +191,21 @@ module _ (S : RattleType) {M : Type 1} {𝓤 : Ura M} (𝓛 : Logic 𝓤) (D : D
     done₀_goes : AllGo 𝓛 1 (done₀_ended S).signature.params (done₀_ended S).kept done₀_stayed
     done₀_goes = (Goes-ref 𝓛 1 0 tt (plain (λ κs. S)), tt)
 
-    done₀_walks : (C : Calls 𝓤 H) (Λ : Loops 𝓤 H) → FmC 𝓤 H 𝓛.laws C → (f : Name) → Triple 𝓤 (C f) done₀_value → Walks 𝓛 (done₀_ended S) done₀_stayed (WpFn 𝓤 H C Λ (done₀_fn (ty_ref (named 0) mut (pointee S.written)) (lone S.mir) f)) done₀_clauses
+    done₀_walks : (C : Calls 𝓤 H) (Λ : Loops 𝓤 H) → FmC 𝓤 H 𝓛.laws C → (f : Callee) → Triple 𝓤 (C f) done₀_value → Walks 𝓛 (done₀_ended S) done₀_stayed (WpFn 𝓤 H C Λ (done₀_fn (ty_ref (named 0) mut (pointee S.written)) (lone S.mir) f)) done₀_clauses
     done₀_walks C Λ fm f known = walked 𝓛 (done₀_ended S) done₀_stayed done₀_clauses (WpFn 𝓤 H C Λ (done₀_fn (ty_ref (named 0) mut (pointee S.written)) (lone S.mir) f)) (λ κs. (mut_vals, tt)) (λ κs. (mut_Tells (named 0) κs.0 S, tt))
         (λ κs qs bounds a g are. done₀_walk κs.0 qs.0 a.0.ref_ptr.0 a.0.ref_ptr.1 a.0.ghost_name a.0.now C Λ fm f known)
 
-    pub done₀ : (𝓣 : Tables 𝓤 H) (f : Name) → Triple 𝓤 (𝓣.C f) done₀_value
+    pub done₀ : (𝓣 : Tables 𝓤 H) (f : Callee) → Triple 𝓤 (𝓣.C f) done₀_value
         → Meets 𝓛 (done₀_ended S).signature (WpFn 𝓤 H 𝓣.C 𝓣.Λ (done₀_fn (ty_ref (named 0) mut (pointee S.written)) (lone S.mir) f)) (closing 𝓛 (done₀_ended S) done₀_clauses)
     done₀ 𝓣 f known = walk_Meets 𝓛 (done₀_ended S) done₀_stayed done₀_goes done₀_clauses (WpFn 𝓤 H 𝓣.C 𝓣.Λ (done₀_fn (ty_ref (named 0) mut (pointee S.written)) (lone S.mir) f)) (WpFn-mono 𝓤 H 𝓛.laws 𝓣 (done₀_fn (ty_ref (named 0) mut (pointee S.written)) (lone S.mir) f)) (done₀_walks 𝓣.C 𝓣.Λ (fm_of 𝓤 H 𝓛.laws 𝓣) f known)
 
 -- ---- 0 arguments
-abbrev pub answers₀_fn : (ref state result answer : Ty) (f : Name) → Fn
+abbrev pub answers₀_fn : (ref state result answer : Ty) (f : Callee) → Fn
 answers₀_fn ref state result answer f = record {
   lifetimes = 1;
   outlives = [];
+  ty_params = [];
+  givens = 0;
   params = 1;
   locals = local answer value_local ∷ local ref value_local ∷ local result value_local ∷ local state value_local ∷ [];
   body = seq (assign (place 3 []) (rv_opd (copy (place 1 (deref state ∷ []))))) (seq (call f (copy (place 3 []) ∷ []) (place 2 [])) (seq (assign (place 1 (deref state ∷ [])) (rv_opd (copy (place 2 (field 1 ∷ []))))) (seq (assign (place 0 []) (rv_opd (copy (place 2 (field 0 ∷ []))))) return)));
@@ -257,7 +261,7 @@ module _ (S P G : RattleType) {M : Type 1} {𝓤 : Ura M} (𝓛 : Logic 𝓤) (D
       answers₀_hears : (r : G.Denot) → ent 𝓤 (ensured 𝓛 (answers₀_value_ended S P G) answers₀_value_clauses tt (h, tt) tt r) (fact 𝓤 (Ens h (pr.state r) (pr.answer r)))
       answers₀_hears r = ex_e 𝓤 _ (λ ws. snd∗ 𝓤 (sem 𝓛 (lasts (answers₀_value_ended S P G) tt (h, tt) ws)) (fact 𝓤 (Ens h (pr.state r) (pr.answer r))))
 
-      module _ (C : Calls 𝓤 H) (Λ : Loops 𝓤 H) (fm : FmC 𝓤 H 𝓛.laws C) (f : Name) (known : Triple 𝓤 (C f) answers₀_value) where
+      module _ (C : Calls 𝓤 H) (Λ : Loops 𝓤 H) (fm : FmC 𝓤 H 𝓛.laws C) (f : Callee) (known : Triple 𝓤 (C f) answers₀_value) where
         answers₀_walk : ent 𝓤 (sep 𝓤 (on_entry 𝓛 (answers₀_ended S P G).signature (κ, tt) (q, tt) answers₀_passed answers₀_at) (Req h)) (WpFn 𝓤 H C Λ (answers₀_fn (ty_ref (named 0) mut (pointee S.written)) (lone S.mir) (ty_struct pr.name (tcons (lone P.mir) (tcons (lone S.mir) tnil))) (lone P.mir) f) (vptr b o ∷ []) answers₀_post)
         answers₀_walk =
             qed 𝓛 (((‵ (flft κ q) ⊛ ‵ ftrue) ⊛ ‵ (owns (MutRef (named 0) κ S ∷ []) answers₀_passed answers₀_at)) ∷ raw (Req h) ∷ []) ∵ split ! $ split ! $ move ! (2 ∷ []) $ fsplit ! $ fsplit3 ! $ drop ! $ keep ! (0 ∷ 1 ∷ 3 ∷ 5 ∷ []) $
@@ -269,7 +273,7 @@ module _ (S P G : RattleType) {M : Type 1} {𝓤 : Ura M} (𝓛 : Logic 𝓤) (D
             assigns ! (of_opd ! (load ! (from ! (hop ! (look ! 8 refl) (stop !))) (look ! 0 refl))) (from ! (stop !)) (init ! 4 refl (D.typed h is)) $
             move ! (12 ∷ []) $ use1 𝓛 (raw (answers₀_value.pre answers₀_called)) (answers₀_calls is) $
             calls_from ! fm (raw (answers₀_value.pre answers₀_called)) (D.mach h ∷ []) (answers₀_value.post answers₀_called) (known answers₀_called) (and_then ! (load ! (from ! (stop !)) (look ! 5 refl)) (no_more !)) (λ v.
-            use1 𝓛 (later (some (λ (r : G.Denot). (‵ ftrue ⊛ ‵ (G.own r (v ∷ []))) ⊛ raw (ensured 𝓛 (answers₀_value_ended S P G) answers₀_value_clauses tt (h, tt) tt r)))) (id⊢ 𝓤 _) $ await ! tt $ pick ! (λ r.
+            use1 𝓛 (later (some (λ (r : G.Denot). (‵ ftrue ⊛ ‵ (G.own_val r (v ∷ []))) ⊛ raw (ensured 𝓛 (answers₀_value_ended S P G) answers₀_value_clauses tt (h, tt) tt r)))) (id⊢ 𝓤 _) $ await ! tt $ pick ! (λ r.
             split ! $ move ! (1 ∷ []) $ use1 𝓛 (raw (fact 𝓤 (Ens h (pr.state r) (pr.answer r)))) (answers₀_hears r) $ heard ! (Ens h (pr.state r) (pr.answer r)) (λ e. split ! $ drop ! $
             peeks ! G (Is G) (shows 𝓛 G) r (v ∷ []) (λ gs.
             land ! (from ! (stop !)) (init ! 7 refl (pr.typed r v gs)) $ drop ! $
@@ -285,19 +289,21 @@ module _ (S P G : RattleType) {M : Type 1} {𝓤 : Ura M} (𝓛 : Logic 𝓤) (D
     answers₀_goes : AllGo 𝓛 1 (answers₀_ended S P G).signature.params (answers₀_ended S P G).kept answers₀_stayed
     answers₀_goes = (Goes-ref 𝓛 1 0 tt (plain (λ κs. S)), tt)
 
-    answers₀_walks : (C : Calls 𝓤 H) (Λ : Loops 𝓤 H) → FmC 𝓤 H 𝓛.laws C → (f : Name) → Triple 𝓤 (C f) answers₀_value → Walks 𝓛 (answers₀_ended S P G) answers₀_stayed (WpFn 𝓤 H C Λ (answers₀_fn (ty_ref (named 0) mut (pointee S.written)) (lone S.mir) (ty_struct pr.name (tcons (lone P.mir) (tcons (lone S.mir) tnil))) (lone P.mir) f)) answers₀_clauses
+    answers₀_walks : (C : Calls 𝓤 H) (Λ : Loops 𝓤 H) → FmC 𝓤 H 𝓛.laws C → (f : Callee) → Triple 𝓤 (C f) answers₀_value → Walks 𝓛 (answers₀_ended S P G) answers₀_stayed (WpFn 𝓤 H C Λ (answers₀_fn (ty_ref (named 0) mut (pointee S.written)) (lone S.mir) (ty_struct pr.name (tcons (lone P.mir) (tcons (lone S.mir) tnil))) (lone P.mir) f)) answers₀_clauses
     answers₀_walks C Λ fm f known = walked 𝓛 (answers₀_ended S P G) answers₀_stayed answers₀_clauses (WpFn 𝓤 H C Λ (answers₀_fn (ty_ref (named 0) mut (pointee S.written)) (lone S.mir) (ty_struct pr.name (tcons (lone P.mir) (tcons (lone S.mir) tnil))) (lone P.mir) f)) (λ κs. (mut_vals, tt)) (λ κs. (mut_Tells (named 0) κs.0 S, tt))
         (λ κs qs bounds a g are. answers₀_walk κs.0 qs.0 a.0.ref_ptr.0 a.0.ref_ptr.1 a.0.ghost_name a.0.now C Λ fm f known)
 
-    pub answers₀ : (𝓣 : Tables 𝓤 H) (f : Name) → Triple 𝓤 (𝓣.C f) answers₀_value
+    pub answers₀ : (𝓣 : Tables 𝓤 H) (f : Callee) → Triple 𝓤 (𝓣.C f) answers₀_value
         → Meets 𝓛 (answers₀_ended S P G).signature (WpFn 𝓤 H 𝓣.C 𝓣.Λ (answers₀_fn (ty_ref (named 0) mut (pointee S.written)) (lone S.mir) (ty_struct pr.name (tcons (lone P.mir) (tcons (lone S.mir) tnil))) (lone P.mir) f)) (closing 𝓛 (answers₀_ended S P G) answers₀_clauses)
     answers₀ 𝓣 f known = walk_Meets 𝓛 (answers₀_ended S P G) answers₀_stayed answers₀_goes answers₀_clauses (WpFn 𝓤 H 𝓣.C 𝓣.Λ (answers₀_fn (ty_ref (named 0) mut (pointee S.written)) (lone S.mir) (ty_struct pr.name (tcons (lone P.mir) (tcons (lone S.mir) tnil))) (lone P.mir) f)) (WpFn-mono 𝓤 H 𝓛.laws 𝓣 (answers₀_fn (ty_ref (named 0) mut (pointee S.written)) (lone S.mir) (ty_struct pr.name (tcons (lone P.mir) (tcons (lone S.mir) tnil))) (lone P.mir) f)) (answers₀_walks 𝓣.C 𝓣.Λ (fm_of 𝓤 H 𝓛.laws 𝓣) f known)
 
 -- ---- 1 argument
-abbrev pub answers₁_fn : (ref state result answer τ₁ : Ty) (f : Name) → Fn
+abbrev pub answers₁_fn : (ref state result answer τ₁ : Ty) (f : Callee) → Fn
 answers₁_fn ref state result answer τ₁ f = record {
   lifetimes = 1;
   outlives = [];
+  ty_params = [];
+  givens = 0;
   params = 2;
   locals = local answer value_local ∷ local ref value_local ∷ local τ₁ value_local ∷ local result value_local ∷ local state value_local ∷ [];
   body = seq (assign (place 4 []) (rv_opd (copy (place 1 (deref state ∷ []))))) (seq (call f (copy (place 4 []) ∷ copy (place 2 []) ∷ []) (place 3 [])) (seq (assign (place 1 (deref state ∷ [])) (rv_opd (copy (place 3 (field 1 ∷ []))))) (seq (assign (place 0 []) (rv_opd (copy (place 3 (field 0 ∷ []))))) return)));
@@ -353,7 +359,7 @@ module _ (S P G X₁ : RattleType) {M : Type 1} {𝓤 : Ura M} (𝓛 : Logic �
       answers₁_hears : (r : G.Denot) → ent 𝓤 (ensured 𝓛 (answers₁_value_ended S P G X₁) answers₁_value_clauses tt (h, (x₁, tt)) tt r) (fact 𝓤 (Ens h x₁ (pr.state r) (pr.answer r)))
       answers₁_hears r = ex_e 𝓤 _ (λ ws. snd∗ 𝓤 (sem 𝓛 (lasts (answers₁_value_ended S P G X₁) tt (h, (x₁, tt)) ws)) (fact 𝓤 (Ens h x₁ (pr.state r) (pr.answer r))))
 
-      module _ (C : Calls 𝓤 H) (Λ : Loops 𝓤 H) (fm : FmC 𝓤 H 𝓛.laws C) (f : Name) (known : Triple 𝓤 (C f) answers₁_value) where
+      module _ (C : Calls 𝓤 H) (Λ : Loops 𝓤 H) (fm : FmC 𝓤 H 𝓛.laws C) (f : Callee) (known : Triple 𝓤 (C f) answers₁_value) where
         answers₁_walk : ent 𝓤 (sep 𝓤 (on_entry 𝓛 (answers₁_ended S P G X₁).signature (κ, tt) (q, tt) answers₁_passed answers₁_at) (Req h x₁)) (WpFn 𝓤 H C Λ (answers₁_fn (ty_ref (named 0) mut (pointee S.written)) (lone S.mir) (ty_struct pr.name (tcons (lone P.mir) (tcons (lone S.mir) tnil))) (lone P.mir) (lone X₁.mir) f) (vptr b o ∷ D₁.mach x₁ ∷ []) answers₁_post)
         answers₁_walk =
             qed 𝓛 (((‵ (flft κ q) ⊛ ‵ ftrue) ⊛ ‵ (owns (MutRef (named 0) κ S ∷ X₁ ∷ []) answers₁_passed answers₁_at)) ∷ raw (Req h x₁) ∷ []) ∵ split ! $ split ! $ move ! (2 ∷ []) $ fsplit ! $ fsplit3 ! $ drop ! $ keep ! (0 ∷ 1 ∷ 3 ∷ 5 ∷ []) $
@@ -365,7 +371,7 @@ module _ (S P G X₁ : RattleType) {M : Type 1} {𝓤 : Ura M} (𝓛 : Logic �
             assigns ! (of_opd ! (load ! (from ! (hop ! (look ! 10 refl) (stop !))) (look ! 0 refl))) (from ! (stop !)) (init ! 4 refl (D.typed h is)) $
             move ! (14 ∷ []) $ use1 𝓛 (raw (answers₁_value.pre answers₁_called)) (answers₁_calls is) $
             calls_from ! fm (raw (answers₁_value.pre answers₁_called)) (D.mach h ∷ D₁.mach x₁ ∷ []) (answers₁_value.post answers₁_called) (known answers₁_called) (and_then ! (load ! (from ! (stop !)) (look ! 5 refl)) (and_then ! (load ! (from ! (stop !)) (look ! 9 refl)) (no_more !))) (λ v.
-            use1 𝓛 (later (some (λ (r : G.Denot). (‵ ftrue ⊛ ‵ (G.own r (v ∷ []))) ⊛ raw (ensured 𝓛 (answers₁_value_ended S P G X₁) answers₁_value_clauses tt (h, (x₁, tt)) tt r)))) (id⊢ 𝓤 _) $ await ! tt $ pick ! (λ r.
+            use1 𝓛 (later (some (λ (r : G.Denot). (‵ ftrue ⊛ ‵ (G.own_val r (v ∷ []))) ⊛ raw (ensured 𝓛 (answers₁_value_ended S P G X₁) answers₁_value_clauses tt (h, (x₁, tt)) tt r)))) (id⊢ 𝓤 _) $ await ! tt $ pick ! (λ r.
             split ! $ move ! (1 ∷ []) $ use1 𝓛 (raw (fact 𝓤 (Ens h x₁ (pr.state r) (pr.answer r)))) (answers₁_hears r) $ heard ! (Ens h x₁ (pr.state r) (pr.answer r)) (λ e. split ! $ drop ! $
             peeks ! G (Is G) (shows 𝓛 G) r (v ∷ []) (λ gs.
             land ! (from ! (stop !)) (init ! 7 refl (pr.typed r v gs)) $ drop ! $
@@ -381,19 +387,21 @@ module _ (S P G X₁ : RattleType) {M : Type 1} {𝓤 : Ura M} (𝓛 : Logic �
     answers₁_goes : AllGo 𝓛 1 (answers₁_ended S P G X₁).signature.params (answers₁_ended S P G X₁).kept answers₁_stayed
     answers₁_goes = (Goes-ref 𝓛 1 0 tt (plain (λ κs. S)), (Goes-none 𝓛 1 (λ κs. X₁) yes (λ κs. D₁.silent), tt))
 
-    answers₁_walks : (C : Calls 𝓤 H) (Λ : Loops 𝓤 H) → FmC 𝓤 H 𝓛.laws C → (f : Name) → Triple 𝓤 (C f) answers₁_value → Walks 𝓛 (answers₁_ended S P G X₁) answers₁_stayed (WpFn 𝓤 H C Λ (answers₁_fn (ty_ref (named 0) mut (pointee S.written)) (lone S.mir) (ty_struct pr.name (tcons (lone P.mir) (tcons (lone S.mir) tnil))) (lone P.mir) (lone X₁.mir) f)) answers₁_clauses
+    answers₁_walks : (C : Calls 𝓤 H) (Λ : Loops 𝓤 H) → FmC 𝓤 H 𝓛.laws C → (f : Callee) → Triple 𝓤 (C f) answers₁_value → Walks 𝓛 (answers₁_ended S P G X₁) answers₁_stayed (WpFn 𝓤 H C Λ (answers₁_fn (ty_ref (named 0) mut (pointee S.written)) (lone S.mir) (ty_struct pr.name (tcons (lone P.mir) (tcons (lone S.mir) tnil))) (lone P.mir) (lone X₁.mir) f)) answers₁_clauses
     answers₁_walks C Λ fm f known = walked 𝓛 (answers₁_ended S P G X₁) answers₁_stayed answers₁_clauses (WpFn 𝓤 H C Λ (answers₁_fn (ty_ref (named 0) mut (pointee S.written)) (lone S.mir) (ty_struct pr.name (tcons (lone P.mir) (tcons (lone S.mir) tnil))) (lone P.mir) (lone X₁.mir) f)) (λ κs. (mut_vals, (λ y. D₁.mach y ∷ [], tt))) (λ κs. (mut_Tells (named 0) κs.0 S, (D₁.tells, tt)))
         (λ κs qs bounds a g are. answers₁_walk κs.0 qs.0 a.0.ref_ptr.0 a.0.ref_ptr.1 a.0.ghost_name a.0.now a.1.0 are.1.0 C Λ fm f known)
 
-    pub answers₁ : (𝓣 : Tables 𝓤 H) (f : Name) → Triple 𝓤 (𝓣.C f) answers₁_value
+    pub answers₁ : (𝓣 : Tables 𝓤 H) (f : Callee) → Triple 𝓤 (𝓣.C f) answers₁_value
         → Meets 𝓛 (answers₁_ended S P G X₁).signature (WpFn 𝓤 H 𝓣.C 𝓣.Λ (answers₁_fn (ty_ref (named 0) mut (pointee S.written)) (lone S.mir) (ty_struct pr.name (tcons (lone P.mir) (tcons (lone S.mir) tnil))) (lone P.mir) (lone X₁.mir) f)) (closing 𝓛 (answers₁_ended S P G X₁) answers₁_clauses)
     answers₁ 𝓣 f known = walk_Meets 𝓛 (answers₁_ended S P G X₁) answers₁_stayed answers₁_goes answers₁_clauses (WpFn 𝓤 H 𝓣.C 𝓣.Λ (answers₁_fn (ty_ref (named 0) mut (pointee S.written)) (lone S.mir) (ty_struct pr.name (tcons (lone P.mir) (tcons (lone S.mir) tnil))) (lone P.mir) (lone X₁.mir) f)) (WpFn-mono 𝓤 H 𝓛.laws 𝓣 (answers₁_fn (ty_ref (named 0) mut (pointee S.written)) (lone S.mir) (ty_struct pr.name (tcons (lone P.mir) (tcons (lone S.mir) tnil))) (lone P.mir) (lone X₁.mir) f)) (answers₁_walks 𝓣.C 𝓣.Λ (fm_of 𝓤 H 𝓛.laws 𝓣) f known)
 
 -- ---- 2 arguments
-abbrev pub answers₂_fn : (ref state result answer τ₁ τ₂ : Ty) (f : Name) → Fn
+abbrev pub answers₂_fn : (ref state result answer τ₁ τ₂ : Ty) (f : Callee) → Fn
 answers₂_fn ref state result answer τ₁ τ₂ f = record {
   lifetimes = 1;
   outlives = [];
+  ty_params = [];
+  givens = 0;
   params = 3;
   locals = local answer value_local ∷ local ref value_local ∷ local τ₁ value_local ∷ local τ₂ value_local ∷ local result value_local ∷ local state value_local ∷ [];
   body = seq (assign (place 5 []) (rv_opd (copy (place 1 (deref state ∷ []))))) (seq (call f (copy (place 5 []) ∷ copy (place 2 []) ∷ copy (place 3 []) ∷ []) (place 4 [])) (seq (assign (place 1 (deref state ∷ [])) (rv_opd (copy (place 4 (field 1 ∷ []))))) (seq (assign (place 0 []) (rv_opd (copy (place 4 (field 0 ∷ []))))) return)));
@@ -449,7 +457,7 @@ module _ (S P G X₁ X₂ : RattleType) {M : Type 1} {𝓤 : Ura M} (𝓛 : Logi
       answers₂_hears : (r : G.Denot) → ent 𝓤 (ensured 𝓛 (answers₂_value_ended S P G X₁ X₂) answers₂_value_clauses tt (h, (x₁, (x₂, tt))) tt r) (fact 𝓤 (Ens h x₁ x₂ (pr.state r) (pr.answer r)))
       answers₂_hears r = ex_e 𝓤 _ (λ ws. snd∗ 𝓤 (sem 𝓛 (lasts (answers₂_value_ended S P G X₁ X₂) tt (h, (x₁, (x₂, tt))) ws)) (fact 𝓤 (Ens h x₁ x₂ (pr.state r) (pr.answer r))))
 
-      module _ (C : Calls 𝓤 H) (Λ : Loops 𝓤 H) (fm : FmC 𝓤 H 𝓛.laws C) (f : Name) (known : Triple 𝓤 (C f) answers₂_value) where
+      module _ (C : Calls 𝓤 H) (Λ : Loops 𝓤 H) (fm : FmC 𝓤 H 𝓛.laws C) (f : Callee) (known : Triple 𝓤 (C f) answers₂_value) where
         answers₂_walk : ent 𝓤 (sep 𝓤 (on_entry 𝓛 (answers₂_ended S P G X₁ X₂).signature (κ, tt) (q, tt) answers₂_passed answers₂_at) (Req h x₁ x₂)) (WpFn 𝓤 H C Λ (answers₂_fn (ty_ref (named 0) mut (pointee S.written)) (lone S.mir) (ty_struct pr.name (tcons (lone P.mir) (tcons (lone S.mir) tnil))) (lone P.mir) (lone X₁.mir) (lone X₂.mir) f) (vptr b o ∷ D₁.mach x₁ ∷ D₂.mach x₂ ∷ []) answers₂_post)
         answers₂_walk =
             qed 𝓛 (((‵ (flft κ q) ⊛ ‵ ftrue) ⊛ ‵ (owns (MutRef (named 0) κ S ∷ X₁ ∷ X₂ ∷ []) answers₂_passed answers₂_at)) ∷ raw (Req h x₁ x₂) ∷ []) ∵ split ! $ split ! $ move ! (2 ∷ []) $ fsplit ! $ fsplit3 ! $ drop ! $ keep ! (0 ∷ 1 ∷ 3 ∷ 5 ∷ []) $
@@ -461,7 +469,7 @@ module _ (S P G X₁ X₂ : RattleType) {M : Type 1} {𝓤 : Ura M} (𝓛 : Logi
             assigns ! (of_opd ! (load ! (from ! (hop ! (look ! 12 refl) (stop !))) (look ! 0 refl))) (from ! (stop !)) (init ! 4 refl (D.typed h is)) $
             move ! (16 ∷ []) $ use1 𝓛 (raw (answers₂_value.pre answers₂_called)) (answers₂_calls is) $
             calls_from ! fm (raw (answers₂_value.pre answers₂_called)) (D.mach h ∷ D₁.mach x₁ ∷ D₂.mach x₂ ∷ []) (answers₂_value.post answers₂_called) (known answers₂_called) (and_then ! (load ! (from ! (stop !)) (look ! 5 refl)) (and_then ! (load ! (from ! (stop !)) (look ! 11 refl)) (and_then ! (load ! (from ! (stop !)) (look ! 9 refl)) (no_more !)))) (λ v.
-            use1 𝓛 (later (some (λ (r : G.Denot). (‵ ftrue ⊛ ‵ (G.own r (v ∷ []))) ⊛ raw (ensured 𝓛 (answers₂_value_ended S P G X₁ X₂) answers₂_value_clauses tt (h, (x₁, (x₂, tt))) tt r)))) (id⊢ 𝓤 _) $ await ! tt $ pick ! (λ r.
+            use1 𝓛 (later (some (λ (r : G.Denot). (‵ ftrue ⊛ ‵ (G.own_val r (v ∷ []))) ⊛ raw (ensured 𝓛 (answers₂_value_ended S P G X₁ X₂) answers₂_value_clauses tt (h, (x₁, (x₂, tt))) tt r)))) (id⊢ 𝓤 _) $ await ! tt $ pick ! (λ r.
             split ! $ move ! (1 ∷ []) $ use1 𝓛 (raw (fact 𝓤 (Ens h x₁ x₂ (pr.state r) (pr.answer r)))) (answers₂_hears r) $ heard ! (Ens h x₁ x₂ (pr.state r) (pr.answer r)) (λ e. split ! $ drop ! $
             peeks ! G (Is G) (shows 𝓛 G) r (v ∷ []) (λ gs.
             land ! (from ! (stop !)) (init ! 7 refl (pr.typed r v gs)) $ drop ! $
@@ -477,19 +485,21 @@ module _ (S P G X₁ X₂ : RattleType) {M : Type 1} {𝓤 : Ura M} (𝓛 : Logi
     answers₂_goes : AllGo 𝓛 1 (answers₂_ended S P G X₁ X₂).signature.params (answers₂_ended S P G X₁ X₂).kept answers₂_stayed
     answers₂_goes = (Goes-ref 𝓛 1 0 tt (plain (λ κs. S)), (Goes-none 𝓛 1 (λ κs. X₁) yes (λ κs. D₁.silent), (Goes-none 𝓛 1 (λ κs. X₂) yes (λ κs. D₂.silent), tt)))
 
-    answers₂_walks : (C : Calls 𝓤 H) (Λ : Loops 𝓤 H) → FmC 𝓤 H 𝓛.laws C → (f : Name) → Triple 𝓤 (C f) answers₂_value → Walks 𝓛 (answers₂_ended S P G X₁ X₂) answers₂_stayed (WpFn 𝓤 H C Λ (answers₂_fn (ty_ref (named 0) mut (pointee S.written)) (lone S.mir) (ty_struct pr.name (tcons (lone P.mir) (tcons (lone S.mir) tnil))) (lone P.mir) (lone X₁.mir) (lone X₂.mir) f)) answers₂_clauses
+    answers₂_walks : (C : Calls 𝓤 H) (Λ : Loops 𝓤 H) → FmC 𝓤 H 𝓛.laws C → (f : Callee) → Triple 𝓤 (C f) answers₂_value → Walks 𝓛 (answers₂_ended S P G X₁ X₂) answers₂_stayed (WpFn 𝓤 H C Λ (answers₂_fn (ty_ref (named 0) mut (pointee S.written)) (lone S.mir) (ty_struct pr.name (tcons (lone P.mir) (tcons (lone S.mir) tnil))) (lone P.mir) (lone X₁.mir) (lone X₂.mir) f)) answers₂_clauses
     answers₂_walks C Λ fm f known = walked 𝓛 (answers₂_ended S P G X₁ X₂) answers₂_stayed answers₂_clauses (WpFn 𝓤 H C Λ (answers₂_fn (ty_ref (named 0) mut (pointee S.written)) (lone S.mir) (ty_struct pr.name (tcons (lone P.mir) (tcons (lone S.mir) tnil))) (lone P.mir) (lone X₁.mir) (lone X₂.mir) f)) (λ κs. (mut_vals, (λ y. D₁.mach y ∷ [], (λ y. D₂.mach y ∷ [], tt)))) (λ κs. (mut_Tells (named 0) κs.0 S, (D₁.tells, (D₂.tells, tt))))
         (λ κs qs bounds a g are. answers₂_walk κs.0 qs.0 a.0.ref_ptr.0 a.0.ref_ptr.1 a.0.ghost_name a.0.now a.1.0 a.1.1.0 are.1.0 are.1.1.0 C Λ fm f known)
 
-    pub answers₂ : (𝓣 : Tables 𝓤 H) (f : Name) → Triple 𝓤 (𝓣.C f) answers₂_value
+    pub answers₂ : (𝓣 : Tables 𝓤 H) (f : Callee) → Triple 𝓤 (𝓣.C f) answers₂_value
         → Meets 𝓛 (answers₂_ended S P G X₁ X₂).signature (WpFn 𝓤 H 𝓣.C 𝓣.Λ (answers₂_fn (ty_ref (named 0) mut (pointee S.written)) (lone S.mir) (ty_struct pr.name (tcons (lone P.mir) (tcons (lone S.mir) tnil))) (lone P.mir) (lone X₁.mir) (lone X₂.mir) f)) (closing 𝓛 (answers₂_ended S P G X₁ X₂) answers₂_clauses)
     answers₂ 𝓣 f known = walk_Meets 𝓛 (answers₂_ended S P G X₁ X₂) answers₂_stayed answers₂_goes answers₂_clauses (WpFn 𝓤 H 𝓣.C 𝓣.Λ (answers₂_fn (ty_ref (named 0) mut (pointee S.written)) (lone S.mir) (ty_struct pr.name (tcons (lone P.mir) (tcons (lone S.mir) tnil))) (lone P.mir) (lone X₁.mir) (lone X₂.mir) f)) (WpFn-mono 𝓤 H 𝓛.laws 𝓣 (answers₂_fn (ty_ref (named 0) mut (pointee S.written)) (lone S.mir) (ty_struct pr.name (tcons (lone P.mir) (tcons (lone S.mir) tnil))) (lone P.mir) (lone X₁.mir) (lone X₂.mir) f)) (answers₂_walks 𝓣.C 𝓣.Λ (fm_of 𝓤 H 𝓛.laws 𝓣) f known)
 
 -- ---- a call that only reads, with 1 argument
-abbrev pub reads₁_fn : (ref state answer τ₁ : Ty) (f : Name) → Fn
+abbrev pub reads₁_fn : (ref state answer τ₁ : Ty) (f : Callee) → Fn
 reads₁_fn ref state answer τ₁ f = record {
   lifetimes = 1;
   outlives = [];
+  ty_params = [];
+  givens = 0;
   params = 2;
   locals = local answer value_local ∷ local ref value_local ∷ local τ₁ value_local ∷ local state value_local ∷ [];
   body = seq (assign (place 3 []) (rv_opd (copy (place 1 (deref state ∷ []))))) (seq (call f (copy (place 3 []) ∷ copy (place 2 []) ∷ []) (place 0 [])) return);
@@ -502,7 +512,7 @@ module _ (S P X₁ : RattleType) where
   abbrev pub reads₁_value_ended : Ended
   reads₁_value_ended = record { signature = record { lifetimes = 0; outlives = []; params = plain (λ κs. S) ∷ plain (λ κs. X₁) ∷ []; result = plain (λ κs. P) }; kept = (yes, (yes, tt)) }
 
-module _ (S P X₁ : RattleType) {M : Type 1} {𝓤 : Ura M} (𝓛 : Logic 𝓤) (D : Data 𝓛 S) (cp : Copy 𝓛 S) (E : Data 𝓛 P) (D₁ : Data 𝓛 X₁) (Req : S.Denot → X₁.Denot → SProp 𝓤) (Ens : S.Denot → X₁.Denot → P.Denot → Type 0) where
+module _ (S P X₁ : RattleType) {M : Type 1} {𝓤 : Ura M} (𝓛 : Logic 𝓤) (D : Data 𝓛 S) (op : Opens 𝓛 S) (E : Data 𝓛 P) (D₁ : Data 𝓛 X₁) (Req : S.Denot → X₁.Denot → SProp 𝓤) (Ens : S.Denot → X₁.Denot → P.Denot → Type 0) where
   open 𝓛 use {H, A}
 
   abbrev pub reads₁_clauses : Clauses 𝓤 (reads₁_ended S P X₁)
@@ -518,9 +528,9 @@ module _ (S P X₁ : RattleType) {M : Type 1} {𝓤 : Ura M} (𝓛 : Logic 𝓤)
     abbrev reads₁_stayed : Stays (reads₁_ended S P X₁).signature.params (reads₁_ended S P X₁).kept
     reads₁_stayed = (stay_none_ref (0 ∷ []) tt (plain (λ κs. S)) yes, (stay_none (λ κs. X₁) yes, tt))
 
-    module _ (κ : Lft) (q : Share) (b o : ℕ) (γ : GName) (h : S.Denot) (x₁ : X₁.Denot) (x₁-is : Is X₁ x₁ (D₁.mach x₁ ∷ [])) where
-      abbrev reads₁_passed : MutBor S.Denot × (X₁.Denot × Unit {0})
-      reads₁_passed = (record { ref_ptr = (b, o); ghost_name = γ; now = h }, (x₁, tt))
+    module _ (κ : Lft) (q : Share) (b o : ℕ) (h : S.Denot) (x₁ : X₁.Denot) (x₁-is : Is X₁ x₁ (D₁.mach x₁ ∷ [])) where
+      abbrev reads₁_passed : Bor S.Denot × (X₁.Denot × Unit {0})
+      reads₁_passed = (record { ref_ptr = (b, o); now = h }, (x₁, tt))
 
       abbrev reads₁_at : List Val × (List Val × Unit {0})
       reads₁_at = (vptr b o ∷ [], (D₁.mach x₁ ∷ [], tt))
@@ -528,11 +538,11 @@ module _ (S P X₁ : RattleType) {M : Type 1} {𝓤 : Ura M} (𝓛 : Logic 𝓤)
       abbrev reads₁_post : Val → SProp 𝓤
       reads₁_post = (walk_of 𝓛 (reads₁_ended S P X₁) reads₁_stayed reads₁_clauses).post (((κ, tt), (q, tt), tt, reads₁_passed, reads₁_at), tt)
 
-      reads₁_exits : (r : P.Denot) → Ens h x₁ r → Is P r (E.mach r ∷ []) → ent 𝓤 (sep 𝓤 (A.lft κ q) (sep 𝓤 (A.res γ (S.coded.code h)) (A.shr_bor κ (λ s. part_at S s h b o)))) (reads₁_post (E.mach r))
+      reads₁_exits : (r : P.Denot) → Ens h x₁ r → Is P r (E.mach r ∷ []) → ent 𝓤 (sep 𝓤 (A.lft κ q) (sem 𝓛 (hidden_shr S κ h b o))) (reads₁_post (E.mach r))
       reads₁_exits r e ps =
-          qed 𝓛 (‵ (flft κ q) ∷ ‵ (fres γ (S.coded.code h)) ∷ ‵ (fshr_bor κ (λ s. part_at S s h b o)) ∷ []) ∵
+          qed 𝓛 (‵ (flft κ q) ∷ ‵ (hidden_shr S κ h b o) ∷ []) ∵
           suffices ! _ (ends_at 𝓛 (reads₁_ended S P X₁) reads₁_stayed reads₁_clauses (((κ, tt), (q, tt), tt, reads₁_passed, reads₁_at), tt) (E.mach r) r (tt, (D₁.last x₁, tt)) (tt, (tt, tt))) $
-          says ! e $ nothing ! $ move ! (1 ∷ 0 ∷ []) $ join ! $ frame ! $ feq_i ! (List Val) (vptr b o ∷ []) (vptr b o ∷ []) refl $ fjoin3 ! $
+          says ! e $ nothing ! $ move ! (1 ∷ 0 ∷ []) $ join ! $ frame ! $ feq_i ! (List Val) (vptr b o ∷ []) (vptr b o ∷ []) refl $ fjoin ! $
           nothing ! $ owned ! X₁ (Is X₁) D₁.makes x₁ _ x₁-is $ fjoin ! $ move ! (1 ∷ 0 ∷ []) $ fjoin ! $ frame ! $ owned ! P (Is P) E.makes r _ ps $ done !
 
       abbrev reads₁_called : reads₁_value.Ghost
@@ -544,36 +554,36 @@ module _ (S P X₁ : RattleType) {M : Type 1} {𝓤 : Ura M} (𝓛 : Logic 𝓤)
       reads₁_hears : (r : P.Denot) → ent 𝓤 (ensured 𝓛 (reads₁_value_ended S P X₁) reads₁_value_clauses tt (h, (x₁, tt)) tt r) (fact 𝓤 (Ens h x₁ r))
       reads₁_hears r = ex_e 𝓤 _ (λ ws. snd∗ 𝓤 (sem 𝓛 (lasts (reads₁_value_ended S P X₁) tt (h, (x₁, tt)) ws)) (fact 𝓤 (Ens h x₁ r)))
 
-      module _ (C : Calls 𝓤 H) (Λ : Loops 𝓤 H) (fm : FmC 𝓤 H 𝓛.laws C) (f : Name) (known : Triple 𝓤 (C f) reads₁_value) where
+      module _ (C : Calls 𝓤 H) (Λ : Loops 𝓤 H) (fm : FmC 𝓤 H 𝓛.laws C) (f : Callee) (known : Triple 𝓤 (C f) reads₁_value) where
         reads₁_walk : ent 𝓤 (sep 𝓤 (on_entry 𝓛 (reads₁_ended S P X₁).signature (κ, tt) (q, tt) reads₁_passed reads₁_at) (Req h x₁)) (WpFn 𝓤 H C Λ (reads₁_fn (ty_ref (named 0) imm (pointee S.written)) (lone S.mir) (lone P.mir) (lone X₁.mir) f) (vptr b o ∷ D₁.mach x₁ ∷ []) reads₁_post)
         reads₁_walk =
-            qed 𝓛 (((‵ (flft κ q) ⊛ ‵ ftrue) ⊛ ‵ (owns (ShrRef (named 0) κ S ∷ X₁ ∷ []) reads₁_passed reads₁_at)) ∷ raw (Req h x₁) ∷ []) ∵ split ! $ split ! $ move ! (2 ∷ []) $ fsplit ! $ fsplit3 ! $ drop ! $ keep ! (0 ∷ 1 ∷ 3 ∷ 5 ∷ []) $
+            qed 𝓛 (((‵ (flft κ q) ⊛ ‵ ftrue) ⊛ ‵ (owns (ShrRef (named 0) κ S ∷ X₁ ∷ []) reads₁_passed reads₁_at)) ∷ raw (Req h x₁) ∷ []) ∵ split ! $ split ! $ move ! (2 ∷ []) $ fsplit ! $ fsplit ! $ drop ! $ keep ! (0 ∷ 2 ∷ 4 ∷ []) $
             enter ! C Λ (reads₁_fn (ty_ref (named 0) imm (pointee S.written)) (lone S.mir) (lone P.mir) (lone X₁.mir) f) (vptr b o ∷ D₁.mach x₁ ∷ []) _ $
             alloc1 ! (λ l₀. alloc1 ! (λ l₁. alloc1 ! (λ l₂. alloc1 ! (λ l₃. alloc0 ! $ params1 ! $ pass1 ! (init ! 4 refl (tt, tt)) $ pass1 ! (init ! 2 refl (D₁.typed x₁ x₁-is)) $ pass0 ! $
-            move ! (9 ∷ 10 ∷ []) $ shr_bor_dup ! $ move ! (0 ∷ 2 ∷ []) $ shr_bor-open ! tt (part-halves 𝓛 S (Is S) (shows 𝓛 S) (λ x. D.mach x ∷ []) D.tells cp h b o) (λ q'. move ! (1 ∷ []) $
+            move ! (8 ∷ 9 ∷ []) $ twice_dup ! (shared_of S h b o) (op h b o).1 κ $ move ! (0 ∷ 2 ∷ []) $ shr_open ! tt (λ s. part_at S s h b o) (shared_of S h b o) (op h b o).0 (λ q'. move ! (1 ∷ []) $
             use1 𝓛 (given (Is S h (D.mach h ∷ [])) (‵ (fat q' (lone S.mir) b o (D.mach h)))) (cell_of 𝓛 S D q' h b o) $ learn ! (λ is.
-            -- [a share of the cell; what shuts it; the shared borrow; the locals, the last first; res; the requires]
+            -- [a share of the cell; what shuts it; what the `&` holds; the locals, the last first; the requires]
             assigns ! (of_opd ! (load ! (from ! (hop ! (look ! 7 refl) (stop !))) (look ! 0 refl))) (from ! (stop !)) (init ! 3 refl (D.typed h is)) $
-            use1 𝓛 (‵ (part_at S q' h b o)) (of_cell 𝓛 S D q' h b o is) $ move ! (1 ∷ []) $ obor_close ! tt $ drop ! $
-            -- [the token; the shared borrow; the locals; res; the requires]
-            move ! (11 ∷ []) $ use1 𝓛 (raw (reads₁_value.pre reads₁_called)) (reads₁_calls is) $
+            use1 𝓛 (‵ (part_at S q' h b o)) (of_cell 𝓛 S D q' h b o is) $ move ! (1 ∷ []) $ shr_Shut ! tt $
+            -- [the token; what the `&` holds; the locals; the requires]
+            move ! (10 ∷ []) $ use1 𝓛 (raw (reads₁_value.pre reads₁_called)) (reads₁_calls is) $
             calls_from ! fm (raw (reads₁_value.pre reads₁_called)) (D.mach h ∷ D₁.mach x₁ ∷ []) (reads₁_value.post reads₁_called) (known reads₁_called) (and_then ! (load ! (from ! (stop !)) (look ! 3 refl)) (and_then ! (load ! (from ! (stop !)) (look ! 5 refl)) (no_more !))) (λ v.
-            use1 𝓛 (later (some (λ (r : P.Denot). (‵ ftrue ⊛ ‵ (P.own r (v ∷ []))) ⊛ raw (ensured 𝓛 (reads₁_value_ended S P X₁) reads₁_value_clauses tt (h, (x₁, tt)) tt r)))) (id⊢ 𝓤 _) $ await ! tt $ pick ! (λ r.
+            use1 𝓛 (later (some (λ (r : P.Denot). (‵ ftrue ⊛ ‵ (P.own_val r (v ∷ []))) ⊛ raw (ensured 𝓛 (reads₁_value_ended S P X₁) reads₁_value_clauses tt (h, (x₁, tt)) tt r)))) (id⊢ 𝓤 _) $ await ! tt $ pick ! (λ r.
             split ! $ move ! (1 ∷ []) $ use1 𝓛 (raw (fact 𝓤 (Ens h x₁ r))) (reads₁_hears r) $ heard ! (Ens h x₁ r) (λ e. split ! $ drop ! $
             peeks ! P (Is P) (shows 𝓛 P) r (v ∷ []) (λ gs.
             land ! (from ! (stop !)) (init ! 9 refl (told_typed 𝓛 P E r v gs)) $ drop ! $
             rewrite ! 8 (λ (w : Val). ‵ (fat full_share (lone P.mir) l₀ 0 w)) (ap only (E.tells r (v ∷ []) gs)) refl $
             returns ! (look ! 8 refl) $ forget ! 8 refl $ forget ! 6 refl $ forget ! 4 refl $ forget ! 2 refl $
             move ! (8 ∷ 9 ∷ []) $ free1 ! $ move ! (6 ∷ 7 ∷ []) $ free1 ! $ move ! (4 ∷ 5 ∷ []) $ free1 ! $ move ! (2 ∷ 3 ∷ []) $ free1 ! $ free0 ! $
-            keep ! (0 ∷ 2 ∷ 1 ∷ []) $ by ! (reads₁_exits r e (told 𝓛 P E r v gs))))))))))))
+            keep ! (0 ∷ 1 ∷ []) $ by ! (reads₁_exits r e (told 𝓛 P E r v gs))))))))))))
 
     reads₁_goes : AllGo 𝓛 1 (reads₁_ended S P X₁).signature.params (reads₁_ended S P X₁).kept reads₁_stayed
     reads₁_goes = (Goes-none_ref 𝓛 1 (0 ∷ []) tt (plain (λ κs. S)) yes, (Goes-none 𝓛 1 (λ κs. X₁) yes (λ κs. D₁.silent), tt))
 
-    reads₁_walks : (C : Calls 𝓤 H) (Λ : Loops 𝓤 H) → FmC 𝓤 H 𝓛.laws C → (f : Name) → Triple 𝓤 (C f) reads₁_value → Walks 𝓛 (reads₁_ended S P X₁) reads₁_stayed (WpFn 𝓤 H C Λ (reads₁_fn (ty_ref (named 0) imm (pointee S.written)) (lone S.mir) (lone P.mir) (lone X₁.mir) f)) reads₁_clauses
+    reads₁_walks : (C : Calls 𝓤 H) (Λ : Loops 𝓤 H) → FmC 𝓤 H 𝓛.laws C → (f : Callee) → Triple 𝓤 (C f) reads₁_value → Walks 𝓛 (reads₁_ended S P X₁) reads₁_stayed (WpFn 𝓤 H C Λ (reads₁_fn (ty_ref (named 0) imm (pointee S.written)) (lone S.mir) (lone P.mir) (lone X₁.mir) f)) reads₁_clauses
     reads₁_walks C Λ fm f known = walked 𝓛 (reads₁_ended S P X₁) reads₁_stayed reads₁_clauses (WpFn 𝓤 H C Λ (reads₁_fn (ty_ref (named 0) imm (pointee S.written)) (lone S.mir) (lone P.mir) (lone X₁.mir) f)) (λ κs. (shr_vals, (λ y. D₁.mach y ∷ [], tt))) (λ κs. (shr_Tells (named 0) κs.0 S, (D₁.tells, tt)))
-        (λ κs qs bounds a g are. reads₁_walk κs.0 qs.0 a.0.ref_ptr.0 a.0.ref_ptr.1 a.0.ghost_name a.0.now a.1.0 are.1.0 C Λ fm f known)
+        (λ κs qs bounds a g are. reads₁_walk κs.0 qs.0 a.0.ref_ptr.0 a.0.ref_ptr.1 a.0.now a.1.0 are.1.0 C Λ fm f known)
 
-    pub reads₁ : (𝓣 : Tables 𝓤 H) (f : Name) → Triple 𝓤 (𝓣.C f) reads₁_value
+    pub reads₁ : (𝓣 : Tables 𝓤 H) (f : Callee) → Triple 𝓤 (𝓣.C f) reads₁_value
         → Meets 𝓛 (reads₁_ended S P X₁).signature (WpFn 𝓤 H 𝓣.C 𝓣.Λ (reads₁_fn (ty_ref (named 0) imm (pointee S.written)) (lone S.mir) (lone P.mir) (lone X₁.mir) f)) (closing 𝓛 (reads₁_ended S P X₁) reads₁_clauses)
     reads₁ 𝓣 f known = walk_Meets 𝓛 (reads₁_ended S P X₁) reads₁_stayed reads₁_goes reads₁_clauses (WpFn 𝓤 H 𝓣.C 𝓣.Λ (reads₁_fn (ty_ref (named 0) imm (pointee S.written)) (lone S.mir) (lone P.mir) (lone X₁.mir) f)) (WpFn-mono 𝓤 H 𝓛.laws 𝓣 (reads₁_fn (ty_ref (named 0) imm (pointee S.written)) (lone S.mir) (lone P.mir) (lone X₁.mir) f)) (reads₁_walks 𝓣.C 𝓣.Λ (fm_of 𝓤 H 𝓛.laws 𝓣) f known)

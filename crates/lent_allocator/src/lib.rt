@@ -1,5 +1,6 @@
 // An allocator that the host owns and lends: each call is the by-value one, on what stands behind the reference.
 #![tactic(auto)]
+
 ghost use Rattle.std.specs.Prelude.{true};
 ghost use Rattle.sizes.specs.Allocator.{ValidAllocator, dropped_of, Gives, Becomes};
 

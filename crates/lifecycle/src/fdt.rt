@@ -7,7 +7,7 @@ ghost use Rattle.lifecycle.specs.Setup.{sound_sizes, bad_blocks};
 ghost use Rattle.lifecycle.specs.FdtCalls.{own_of, bad_part_of, put_of, reserved_of, released_of, fresh_of, named_of, added_of, is_added_of, transfers_of, transfers_said, unlisted_of, freed_of, removed_of, triggered_of, taken_at, taken_of, back_of, let_go_of, done_of, completed_of, ValidFdt};
 ghost use Rattle.lifecycle.specs.Slots.{slot_at, queue_startable};
 ghost use Rattle.lifecycle.specs.Announce.{waits_of};
-ghost use Rattle.lifecycle.specs.FdtCalls.{with_published as announced-of, opening_fdt, publish_of, draft_said, real_draft, draft_test_of, next_fdt_of, fdt_done_of};
+ghost use Rattle.lifecycle.specs.FdtCalls.{with_published as announced_of, opening_fdt, publish_of, draft_said, real_draft, draft_test_of, next_fdt_of, fdt_done_of};
 
 use crate::announce::{Announcer, Draft, fdt_plan};
 use crate::filedesc::{FileDesc, Plan, Time};
@@ -622,7 +622,7 @@ impl Fdt {
 
     // A new FDT side, after a publish: every listed object is published.
     fn announced(mut self, announcer: Announcer) -> Fdt
-        ensures { result ≡ announced-of self announcer }
+        ensures { result ≡ announced_of self announcer }
     {
         let was = self.slots;
         let slots = mark_published(was);

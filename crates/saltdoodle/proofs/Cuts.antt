@@ -6,7 +6,7 @@ use mathlib.Core.List.{List, [], ◌∷◌}
 use lib.ListN.{set}
 use lib.Seq.{set-get_or}
 use seplogic.Ra.Ura.{Ura}
-use seplogic.Ra.TreeShare.{full_share}
+use base.Fraction.{full_share}
 use mir.Syntax.{ty_int, w64}
 use mir.Val.{vint}
 use base.Logic.{ent, sep, wand, guard, apply∗}
@@ -19,8 +19,8 @@ use denote.Laws.{Is}
 use denote.Plain.{UInt}
 use denote.Memory.{part_at}
 use borrow.Struct.Way.{Cut}
-use borrow.Struct.Behind.{look_at, put_at}
-use borrow.Struct.Items.{cut-records}
+use borrow.Struct.Behind.{look_at, put_at_lem}
+use denote.Struct.Loose.{loosens}
 use Rattle.lifecycle.specs.Slots.{no_slot, slot_at}
 use Rattle.lifecycle.specs.declared.slots.Slot.{Slot}
 use Rattle.lifecycle.specs.declared.fdt.Fdt.{Fdt}
@@ -53,18 +53,17 @@ use Rattle.lifecycle.proofs.announce.Announcer.TheLaws as N'
 module _ {M : Type 1} {𝓤 : Ura M} (𝓛 : Logic 𝓤) (b o : ℕ) (g : Sender) where
   pub look_session : (i : ℕ) → Cut 𝓛 full_share T.the_row (Array X.the_row 4) 6992 g g g.sessions (set g.sessions i (session_at g i)) (b, o)
   look_session i = subst (λ (l : List SenderSession). Cut 𝓛 full_share T.the_row (Array X.the_row 4) 6992 g g g.sessions l (b, o)) (sym (set-get_or g.sessions i (idle_of 0)))
-      (cut-records 𝓛 full_share T.the_row X.the_type 4 6992 g g g.sessions g.sessions (b, o) (look_at 𝓛 full_share T.the_type T'.the_laws 3 6992 refl refl (b, o) g ((T.struct).as_values g) refl))
+      (look_at 𝓛 full_share T.the_type (loosens (T.the_type).parts T'.the_laws) 3 6992 refl refl (b, o) g ((T.struct).as_values g) refl)
 
   pub put_session : (i : ℕ) (y : SenderSession) → Cut 𝓛 full_share T.the_row (Array X.the_row 4) 6992 g (with_session i y g) g.sessions (set g.sessions i y) (b, o)
-  put_session i y = cut-records 𝓛 full_share T.the_row X.the_type 4 6992 g (with_session i y g) g.sessions (set g.sessions i y) (b, o)
-      (put_at 𝓛 full_share T.the_type T'.the_laws 3 6992 refl refl (b, o) g (with_session i y g) ((T.struct).as_values g) (set g.sessions i y) refl refl)
+  put_session i y = put_at_lem 𝓛 full_share T.the_type (loosens (T.the_type).parts T'.the_laws) 3 6992 refl refl (b, o) g (with_session i y g) ((T.struct).as_values g) (set g.sessions i y) refl refl
 
   look_list : Cut 𝓛 full_share T.the_row D.the_row 0 g g g.fdt g.fdt (b, o)
-  look_list = cut_record 𝓛 T.the_row D.the_type 0 g g g.fdt g.fdt (b, o) (look_at 𝓛 full_share T.the_type T'.the_laws 0 0 refl refl (b, o) g ((T.struct).as_values g) refl)
+  look_list = cut_record 𝓛 T.the_row D.the_type 0 g g g.fdt g.fdt (b, o) (look_at 𝓛 full_share T.the_type (loosens (T.the_type).parts T'.the_laws) 0 0 refl refl (b, o) g ((T.struct).as_values g) refl)
 
   slots_in : (f : Fdt) (k p : ℕ) → Cut 𝓛 full_share D.the_row (Array Y.the_row 32) 1112 f f f.slots (set f.slots k (slot_at f.slots k)) (b, p)
   slots_in f k p = subst (λ (l : List Slot). Cut 𝓛 full_share D.the_row (Array Y.the_row 32) 1112 f f f.slots l (b, p)) (sym (set-get_or f.slots k no_slot))
-      (cut-records 𝓛 full_share D.the_row Y.the_type 32 1112 f f f.slots f.slots (b, p) (look_at 𝓛 full_share D.the_type D'.the_laws 3 1112 refl refl (b, p) f ((D.struct).as_values f) refl))
+      (look_at 𝓛 full_share D.the_type (loosens (D.the_type).parts D'.the_laws) 3 1112 refl refl (b, p) f ((D.struct).as_values f) refl)
 
   pub look_slot : (k : ℕ) → Cut 𝓛 full_share T.the_row (Array Y.the_row 32) (0 + 1112) g g g.fdt.slots (set g.fdt.slots k (slot_at g.fdt.slots k)) (b, o)
   look_slot k = cut_then 𝓛 T.the_row D.the_row (Array Y.the_row 32) 0 1112 g g g.fdt g.fdt g.fdt.slots (set g.fdt.slots k (slot_at g.fdt.slots k)) b o look_list (slots_in g.fdt k (o + 0))
@@ -83,10 +82,10 @@ module _ {M : Type 1} {𝓤 : Ura M} (𝓛 : Logic 𝓤) (b o : ℕ) (g : Sender
   waiting_part = part_at usize full_share g.fdt.announcer.waiting b (o + 0 + 6496 + 376)
 
   announcer_in : Cut 𝓛 full_share D.the_row N.the_row 6496 g.fdt g.fdt g.fdt.announcer g.fdt.announcer (b, o + 0)
-  announcer_in = cut_record 𝓛 D.the_row N.the_type 6496 g.fdt g.fdt g.fdt.announcer g.fdt.announcer (b, o + 0) (look_at 𝓛 full_share D.the_type D'.the_laws 6 6496 refl refl (b, o + 0) g.fdt ((D.struct).as_values g.fdt) refl)
+  announcer_in = cut_record 𝓛 D.the_row N.the_type 6496 g.fdt g.fdt g.fdt.announcer g.fdt.announcer (b, o + 0) (look_at 𝓛 full_share D.the_type (loosens (D.the_type).parts D'.the_laws) 6 6496 refl refl (b, o + 0) g.fdt ((D.struct).as_values g.fdt) refl)
 
   waiting_in : Cut 𝓛 full_share N.the_row usize 376 g.fdt.announcer g.fdt.announcer g.fdt.announcer.waiting g.fdt.announcer.waiting (b, o + 0 + 6496)
-  waiting_in = look_at 𝓛 full_share N.the_type N'.the_laws 3 376 refl refl (b, o + 0 + 6496) g.fdt.announcer ((N.struct).as_values g.fdt.announcer) refl
+  waiting_in = look_at 𝓛 full_share N.the_type (loosens (N.the_type).parts N'.the_laws) 3 376 refl refl (b, o + 0 + 6496) g.fdt.announcer ((N.struct).as_values g.fdt.announcer) refl
 
   pub look_waiting : ent 𝓤 (sem 𝓛 (part_at T.the_row full_share g b o)) (guard 𝓤 (Is usize g.fdt.announcer.waiting (vint w64 g.fdt.announcer.waiting ∷ [])) (sep 𝓤 (sem 𝓛 waiting_cell) (wand 𝓤 (sem 𝓛 waiting_cell) (sem 𝓛 (part_at T.the_row full_share g b o)))))
   look_waiting = qed 𝓛 (‵ (part_at T.the_row full_share g b o) ∷ []) {P = guard 𝓤 (Is usize g.fdt.announcer.waiting (vint w64 g.fdt.announcer.waiting ∷ [])) (sep 𝓤 (sem 𝓛 waiting_cell) (wand 𝓤 (sem 𝓛 waiting_cell) (sem 𝓛 (part_at T.the_row full_share g b o))))} (
@@ -103,17 +102,16 @@ module _ {M : Type 1} {𝓤 : Ura M} (𝓛 : Logic 𝓤) (b o : ℕ) (g : Sender
 -- the encoder and the pace of a session, and the next symbol of a block, the index and the due time in them, to be put back changed
 module _ {M : Type 1} {𝓤 : Ura M} (𝓛 : Logic 𝓤) (b o : ℕ) where
   pub put_encoder : (x : SenderSession) (e : BlockEncoder) → Cut 𝓛 full_share X.the_row B.the_row 40 x (with_encoder x e) x.encoder e (b, o)
-  put_encoder x e = cut_record 𝓛 X.the_row B.the_type 40 x (with_encoder x e) x.encoder e (b, o) (put_at 𝓛 full_share X.the_type X'.the_laws 4 40 refl refl (b, o) x (with_encoder x e) ((X.struct).as_values x) e refl refl)
+  put_encoder x e = cut_record 𝓛 X.the_row B.the_type 40 x (with_encoder x e) x.encoder e (b, o) (put_at_lem 𝓛 full_share X.the_type (loosens (X.the_type).parts X'.the_laws) 4 40 refl refl (b, o) x (with_encoder x e) ((X.struct).as_values x) e refl refl)
 
   pub put_open : (e : BlockEncoder) (p : ℕ) (y : Esi) → Cut 𝓛 full_share B.the_row (Array O.the_row 16) 96 e (with_esi e p y) e.window (set e.window p (record { sbn = (open_at e p).sbn; esi = y })) (b, o)
-  put_open e p y = cut-records 𝓛 full_share B.the_row O.the_type 16 96 e (with_esi e p y) e.window (set e.window p (record { sbn = (open_at e p).sbn; esi = y })) (b, o)
-      (put_at 𝓛 full_share B.the_type B'.the_laws 8 96 refl refl (b, o) e (with_esi e p y) ((B.struct).as_values e) (set e.window p (record { sbn = (open_at e p).sbn; esi = y })) refl refl)
+  put_open e p y = put_at_lem 𝓛 full_share B.the_type (loosens (B.the_type).parts B'.the_laws) 8 96 refl refl (b, o) e (with_esi e p y) ((B.struct).as_values e) (set e.window p (record { sbn = (open_at e p).sbn; esi = y })) refl refl
 
   pub put_index : (e : BlockEncoder) (n : ℕ) → Cut 𝓛 full_share B.the_row (UInt w64) 88 e (with_index e n) e.index n (b, o)
-  put_index e n = put_at 𝓛 full_share B.the_type B'.the_laws 7 88 refl refl (b, o) e (with_index e n) ((B.struct).as_values e) n refl refl
+  put_index e n = put_at_lem 𝓛 full_share B.the_type (loosens (B.the_type).parts B'.the_laws) 7 88 refl refl (b, o) e (with_index e n) ((B.struct).as_values e) n refl refl
 
   pub put_pace : (x : SenderSession) (d : ℕ) → Cut 𝓛 full_share X.the_row C.the_row 16 x (with_due x d) x.pace (with_due x d).pace (b, o)
-  put_pace x d = cut_record 𝓛 X.the_row C.the_type 16 x (with_due x d) x.pace (with_due x d).pace (b, o) (put_at 𝓛 full_share X.the_type X'.the_laws 3 16 refl refl (b, o) x (with_due x d) ((X.struct).as_values x) (with_due x d).pace refl refl)
+  put_pace x d = cut_record 𝓛 X.the_row C.the_type 16 x (with_due x d) x.pace (with_due x d).pace (b, o) (put_at_lem 𝓛 full_share X.the_type (loosens (X.the_type).parts X'.the_laws) 3 16 refl refl (b, o) x (with_due x d) ((X.struct).as_values x) (with_due x d).pace refl refl)
 
   pub put_due : (x : SenderSession) (d : ℕ) → Cut 𝓛 full_share C.the_row (UInt w64) 8 x.pace (with_due x d).pace x.pace.due d (b, o)
-  put_due x d = put_at 𝓛 full_share C.the_type C'.the_laws 1 8 refl refl (b, o) x.pace (with_due x d).pace ((C.struct).as_values x.pace) d refl refl
+  put_due x d = put_at_lem 𝓛 full_share C.the_type (loosens (C.the_type).parts C'.the_laws) 1 8 refl refl (b, o) x.pace (with_due x d).pace ((C.struct).as_values x.pace) d refl refl

@@ -1,5 +1,6 @@
 -- Where `fast_run::settle` settles a run of a file session, the sender's run is that: nothing but the session changes.
-use mathlib.Core.Path.{◌≡◌, refl, sym, ◌∙◌, ap}
+use mathlib.Core.Path.{◌≡◌, refl, sym, ◌∙◌, ap, subst}
+use mathlib.Core.List.{List}
 use mathlib.Core.Bool.{Bool, true, false, ◌||◌, true≢false}
 use Prim.Native.Nat.{ℕ, ◌<◌, ◌≤◌, ◌+◌, ◌*◌, ◌^◌}
 use native.Mathlib.Omega.{arith}
@@ -7,11 +8,12 @@ use native.Mathlib.Nat.{add_assoc}
 use borrow.Table.Elements.{at, at_mul}
 use lib.Dec.{ltb}
 use borrow.Author.Tests.{ltb-true, ltb-false}
-use lib.ListN.{get_or}
-use Rattle.sizes.specs.Words.{if◌then◌else◌}
+use lib.ListN.{get_or, set, length, length-set}
+use Rattle.std.proofs.lemmas.List.{get_or_default, get_or-set_same, set-set}
+use Rattle.sizes.specs.Words.{when◌then◌else◌}
 use Rattle.lifecycle.specs.Lifecycle.{too_early}
 use Rattle.lifecycle.specs.FileDesc.{pace_said}
-use Rattle.lifecycle.specs.Slots.{slot_at}
+use Rattle.lifecycle.specs.Slots.{slot_at, no_slot}
 use Rattle.lifecycle.specs.Announce.{waits_of}
 use Rattle.lifecycle.specs.declared.slots.Slot.{Slot}
 use Rattle.lifecycle.specs.declared.fdt.Fdt.{Fdt}
@@ -30,7 +32,6 @@ use Rattle.sender.specs.declared.sender.Running.{Running}
 use Rattle.sender.specs.declared.sender.Sender.{Sender}
 use Rattle.sender.proofs.SenderKept.{runs, run_goes, ran_sender}
 use Rattle.host_structs.specs.Answers.{run_told}
-use Rattle.host_structs.specs.declared.answers.Sent.{Sent}
 use Rattle.fast_run.specs.Settle.{ValidSession, settled_as, settled_by, settled_of}
 use Rattle.fast_run.specs.declared.Settled.{Settled}
 use Rattle.fast_run.specs.Quick.{Quick, stepped}
@@ -72,7 +73,7 @@ slot_by : (x : SenderSession) (y : BlockEncoder) (e : Emitted) → (service_by x
 slot_by x y EmittedV.Nothing = refl
 slot_by x y (EmittedV.One s) = refl
 
-slot_if : (b : Bool) (x : SenderSession) (r : Serving) → r.session.slot ≡ x.slot → (if b then record { answer = OutcomeV.Idle; session = x } else r).session.slot ≡ x.slot
+slot_if : (b : Bool) (x : SenderSession) (r : Serving) → r.session.slot ≡ x.slot → (when b then record { answer = OutcomeV.Idle; session = x } else r).session.slot ≡ x.slot
 slot_if true x r e = refl
 slot_if false x r e = e
 
@@ -149,3 +150,35 @@ small_slot k lt = omega arith
 -- where slot k stands
 pub slot_place : (o k : ℕ) → at (o + (0 + 1112)) 160 k ≡ k * 160 + (o + 0 + 1112)
 slot_place o k = at_mul (o + (0 + 1112)) 160 k ∙ ap (λ (z : ℕ). k * 160 + z) (sym (add_assoc o 0 1112))
+
+-- ---- as a run reads it: at any value for what lies past the end, and with the session's numbers stored one after another
+
+module _ (s : Sender) (ok : ValidSender s) (i : ℕ) (within : i < 4) (d : SenderSession) where
+  abbrev read : SenderSession
+  read = get_or s.sessions i d
+
+  pub session_read : read ≡ session_at s i
+  session_read = get_or_default s.sessions i d (idle_of 0) (omega (arith, ok.long))
+
+  pub read_valid : ValidSession read
+  read_valid = subst ValidSession (sym session_read) (session_valid s ok i)
+
+  module _ (e : Slot) where
+    slot_read : get_or s.fdt.slots (session_at s i).slot e ≡ slot_at s.fdt.slots (session_at s i).slot
+    slot_read = get_or_default s.fdt.slots (session_at s i).slot e no_slot (omega (arith, slot_below s ok i, ok.holds.valid.slots_long))
+
+    pub settles_read : (now : ℕ) (r : Settled) → r ≡ settled_of s.fdt.announcer.waiting now (get_or s.fdt.slots read.slot e) read → r.done ≡ true → RunsFileLent i now s (with_session i r.session s) r.answer
+    settles_read now r z = settles s ok i now r (z
+        ∙ ap (λ (x : SenderSession). settled_of s.fdt.announcer.waiting now (get_or s.fdt.slots x.slot e) x) session_read
+        ∙ ap (λ (t : Slot). settled_of s.fdt.announcer.waiting now t (session_at s i)) slot_read)
+
+    pub glances_read : (now : ℕ) (r : Numbers) → Quick s.fdt.announcer.waiting now (get_or s.fdt.slots read.slot e) read r → RunsFileLent i now s (with_session i (stepped read r.place r.esi r.next r.due) s) r.answer
+    glances_read now r q = settles_read now (record { done = true; answer = r.answer; session = stepped read r.place r.esi r.next r.due }) (sym q.exact) refl
+
+-- an element that is changed three times
+pub changed_thrice : {X : Type 0} (l : List X) (i : ℕ) (d : X) (f g h : X → X) → i < length l
+    → set (set (set l i (f (get_or l i d))) i (g (get_or (set l i (f (get_or l i d))) i d))) i (h (get_or (set (set l i (f (get_or l i d))) i (g (get_or (set l i (f (get_or l i d))) i d))) i d)) ≡ set l i (h (g (f (get_or l i d))))
+changed_thrice l i d f g h lt =
+    let a = get_or-set_same l i (f (get_or l i d)) d lt in
+    let b = get_or-set_same (set l i (f (get_or l i d))) i (g (get_or (set l i (f (get_or l i d))) i d)) d (omega (arith, length-set l i (f (get_or l i d)))) in
+    rw (b, a) (simp set-set)

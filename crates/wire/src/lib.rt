@@ -1,3 +1,4 @@
 // What goes over the wire: the packet record.
 #![tactic(auto)]
+
 pub mod record;

@@ -1,9 +1,7 @@
 use Prim.Native.Nat.{◌-◌}
-use native.Mathlib.Omega.{arith}
-use borrow.Author.Rules.{rules}
 use Rattle.sizes.specs.Limits.{waiting_fdts}
 use Rattle.lifecycle.specs.Announce.{no_instance}
-use Rattle.sizes.proofs.Arrays.{Closing, closing_starts, closing_more, closing_ends}
+use Rattle.sizes.proofs.Arrays.{Closing}
 use Rattle.lifecycle.proofs.announce.moved_up.Given as goal
 
 abbrev pub invariant-loop-j : goal.invariant-loop-j

@@ -1,5 +1,4 @@
 use native.Mathlib.Omega.{arith}
-use borrow.Author.Rules.{rules}
 use Rattle.lifecycle.proofs.AnnounceLaws.{runs_short, runs_middle, runs_long}
 use Rattle.lifecycle.proofs.announce.will_expire.Goals as goal
 

@@ -1,6 +1,5 @@
 use Rattle.lifecycle.specs.Setup.{sound_sizes}
 use Rattle.lifecycle.proofs.SetupLaws.{both, not_first}
-use borrow.Author.Rules.{rules}
 use Rattle.lifecycle.proofs.fdt.are_sound_sizes.Goals as goal
 
 pub returns-then-is_within : goal.returns-then-is_within

@@ -1,11 +1,10 @@
 use mathlib.Core.Path.{◌≡◌, sym, ◌∙◌}
-use Prim.Native.Nat.{◌-◌, ◌<◌, ◌≤◌}
+use Prim.Native.Nat.{◌<◌, ◌≤◌}
 use native.Mathlib.Omega.{arith}
 use borrow.Author.Rules.{rules}
-use lib.ListN.{length, take}
-use Rattle.sizes.specs.Words.{place}
+use lib.ListN.{length}
 use Rattle.sizes.specs.Limits.{object_slots}
-use Rattle.sizes.proofs.Arrays.{ahead, place_start, place_hit, place_miss, place_end, each_get}
+use Rattle.sizes.proofs.Arrays.{place_start, place_hit, place_miss, place_end, each_get}
 use Rattle.lifecycle.specs.Slots.{queue_startable}
 use Rattle.lifecycle.proofs.fdt.first_startable.Goals as goal
 

@@ -1,11 +1,8 @@
-use mathlib.Core.Path.{◌≡◌, sym, ◌∙◌}
-use Prim.Native.Nat.{◌-◌, ◌<◌, ◌≤◌}
-use native.Mathlib.Omega.{arith}
-use borrow.Author.Rules.{rules}
+use mathlib.Core.Path.{◌≡◌}
+use Prim.Native.Nat.{◌-◌, ◌≤◌}
 use lib.ListN.{length, take}
 use Rattle.sizes.specs.Words.{place}
-use Rattle.sizes.specs.Limits.{object_slots}
-use Rattle.sizes.proofs.Arrays.{ahead, place_start, place_hit, place_miss, place_end, each_get}
+use Rattle.sizes.proofs.Arrays.{ahead}
 use Rattle.lifecycle.specs.Slots.{queue_startable}
 use Rattle.lifecycle.proofs.fdt.first_startable.Given as goal
 

@@ -1,4 +1,3 @@
-use borrow.Author.Rules.{rules}
 use Rattle.lifecycle.specs.FdtCalls.{own_of}
 use Rattle.lifecycle.proofs.fdt.own_sizes.Goals as goal
 

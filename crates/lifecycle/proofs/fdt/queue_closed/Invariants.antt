@@ -1,8 +1,6 @@
 use Prim.Native.Nat.{◌-◌}
-use native.Mathlib.Omega.{arith}
-use borrow.Author.Rules.{rules}
 use Rattle.sizes.specs.Limits.{object_slots}
-use Rattle.sizes.proofs.Arrays.{Closing, closing_starts, closing_more, closing_ends}
+use Rattle.sizes.proofs.Arrays.{Closing}
 use Rattle.lifecycle.proofs.fdt.queue_closed.Given as goal
 
 abbrev pub invariant-loop-j : goal.invariant-loop-j

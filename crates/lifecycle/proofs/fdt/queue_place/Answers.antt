@@ -1,13 +1,12 @@
 use mathlib.Core.Path.{◌≡◌, sym, ◌∙◌}
-use Prim.Native.Nat.{◌-◌, ◌≤◌}
+use Prim.Native.Nat.{◌≤◌}
 use native.Mathlib.Omega.{arith}
 use borrow.Author.Tests.{eq-eqb, ne_eqb}
 use borrow.Author.Rules.{rules}
-use lib.ListN.{length, take}
+use lib.ListN.{length}
 use lib.Dec.{eqb}
-use Rattle.sizes.specs.Words.{place}
 use Rattle.sizes.specs.Limits.{object_slots}
-use Rattle.sizes.proofs.Arrays.{ahead, place_start, place_hit, place_miss, place_end}
+use Rattle.sizes.proofs.Arrays.{place_start, place_hit, place_miss, place_end}
 use Rattle.lifecycle.proofs.fdt.queue_place.Goals as goal
 
 pub loop-i-init : goal.loop-i-init

@@ -1,5 +1,4 @@
 use borrow.Author.Tests.{eq-eqb, ne_eqb}
-use borrow.Author.Rules.{rules}
 use Rattle.lifecycle.specs.FdtCalls.{real_draft}
 use Rattle.lifecycle.proofs.fdt.real_draft.Goals as goal
 

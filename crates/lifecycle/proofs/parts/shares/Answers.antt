@@ -1,4 +1,3 @@
-use borrow.Author.Rules.{rules}
 use Rattle.lifecycle.proofs.PartLaws.{empty_first, empty_second, first_reaches, second_reaches}
 use Rattle.lifecycle.proofs.parts.shares.Goals as goal
 

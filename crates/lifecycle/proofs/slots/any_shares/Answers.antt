@@ -1,8 +1,7 @@
 use mathlib.Core.Path.{◌≡◌, sym, ◌∙◌, ap}
-use Prim.Native.Nat.{◌-◌, ◌≤◌}
 use native.Mathlib.Omega.{arith}
 use borrow.Author.Rules.{rules}
-use lib.ListN.{length, take, drop}
+use lib.ListN.{length}
 use lib.Seq.{take_all}
 use Rattle.sizes.specs.Words.{any}
 use Rattle.sizes.specs.Limits.{object_slots}

@@ -1,13 +1,9 @@
-use mathlib.Core.Path.{◌≡◌, sym, ◌∙◌, ap}
+use mathlib.Core.Path.{◌≡◌}
 use Prim.Native.Nat.{◌-◌, ◌≤◌}
-use native.Mathlib.Omega.{arith}
-use borrow.Author.Rules.{rules}
 use lib.ListN.{length, take, drop}
-use lib.Seq.{take_all}
 use Rattle.sizes.specs.Words.{any}
 use Rattle.sizes.specs.Limits.{object_slots}
-use Rattle.sizes.proofs.Arrays.{any_hit, any_miss, any_end}
-use Rattle.lifecycle.specs.Slots.{no_slot, holds_byte}
+use Rattle.lifecycle.specs.Slots.{holds_byte}
 use Rattle.lifecycle.proofs.slots.any_shares.Given as goal
 
 abbrev pub invariant-loop-i : goal.invariant-loop-i

@@ -1,13 +1,10 @@
-use mathlib.Core.Path.{◌≡◌, sym, ◌∙◌, ap}
+use mathlib.Core.Path.{◌≡◌}
 use Prim.Native.Nat.{◌-◌, ◌≤◌}
-use native.Mathlib.Omega.{arith}
-use borrow.Author.Rules.{rules}
 use lib.ListN.{length}
-use lib.Seq.{take_all}
 use Rattle.sizes.specs.Words.{place}
 use Rattle.sizes.specs.Limits.{object_slots}
-use Rattle.sizes.proofs.Arrays.{ahead, place_start, place_hit, place_miss, place_end}
-use Rattle.lifecycle.specs.Slots.{no_slot, is_free}
+use Rattle.sizes.proofs.Arrays.{ahead}
+use Rattle.lifecycle.specs.Slots.{is_free}
 use Rattle.lifecycle.proofs.slots.free_slot.Given as goal
 
 abbrev pub invariant-loop-i : goal.invariant-loop-i

@@ -1,5 +1,4 @@
 use borrow.Author.Tests.{eq-eqb, ne_eqb}
-use borrow.Author.Rules.{rules}
 use Rattle.lifecycle.specs.Slots.{is_free, holds_byte}
 use Rattle.lifecycle.proofs.slots.has_byte_of.Goals as goal
 

@@ -1,10 +1,8 @@
-use mathlib.Core.Path.{◌≡◌, refl, ◌∙◌}
+use mathlib.Core.Path.{◌≡◌}
 use Prim.Native.Nat.{◌-◌, ◌≤◌}
-use native.Mathlib.Omega.{arith}
-use borrow.Author.Rules.{rules}
 use lib.ListN.{length}
-use Rattle.sizes.proofs.Arrays.{mapped, mapped_more, mapped_all}
-use Rattle.lifecycle.specs.Slots.{no_slot, published_slot}
+use Rattle.sizes.proofs.Arrays.{mapped}
+use Rattle.lifecycle.specs.Slots.{published_slot}
 use Rattle.sizes.specs.Limits.{object_slots}
 use Rattle.lifecycle.proofs.slots.mark_published.Given as goal
 

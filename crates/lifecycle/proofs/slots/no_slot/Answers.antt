@@ -1,4 +1,3 @@
-use borrow.Author.Rules.{rules}
 use Rattle.lifecycle.specs.FileDesc.{plan_named, with_carousel, with_target}
 use Rattle.lifecycle.proofs.slots.no_slot.Goals as goal
 

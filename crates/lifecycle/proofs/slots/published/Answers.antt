@@ -1,4 +1,3 @@
-use borrow.Author.Rules.{rules}
 use Rattle.lifecycle.specs.Slots.{published_slot}
 use borrow.Author.Tests.{not-true, not-false}
 use Rattle.lifecycle.proofs.slots.published.Goals as goal

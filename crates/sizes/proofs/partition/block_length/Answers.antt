@@ -1,53 +1,39 @@
 -- `sizes::partition::block_length` meets its contract: each return is a law of `block_length`, by what the checked steps told.
-use Rattle.std.proofs.Common.{◌≡◌, ◌*◌, sym, ◌∙◌, rules}
-use Rattle.sizes.specs.Partition.{checked}
-use Rattle.sizes.specs.declared.partition.Checked.TheVariants.{Fits}
+use Rattle.std.proofs.Common.{sym, ◌∙◌}
 use Rattle.sizes.proofs.Lengths.{large_told, small_told, first_past, first_fits, small_offset_past, large_offset_past, offset_past, later_fits}
-use Rattle.sizes.proofs.partition.block_length.Lts as lts
 use Rattle.sizes.proofs.partition.block_length.Goals as goal
-
--- the two sizes are the two products
-large : (c : lts.In-Fits-2) → checked (c.args.large * c.args.e) ≡ Fits c.in-Fits.large_size
-large c = sym c.checked_mul.ensures ∙ c.in-Fits.is
-
--- the place where the first size became known
-abbrev sized : lts.In-Fits-checked_mul-5 → lts.In-Fits-2
-sized c = c.before.before.before.before
-
-small : (c : lts.In-Fits-checked_mul-5) → checked ((sized c).before.before.before.args.small * (sized c).before.before.before.args.e) ≡ Fits c.in-Fits-checked_mul.small_size
-small c = sym c.checked_mul-2.ensures ∙ c.in-Fits-checked_mul.is
 
 pub returns-in_default : goal.returns-in_default
 returns-in_default c = sym (large_told _ _ _ _ (sym c.checked_mul.ensures ∙ c.in_default.is))
 
 pub returns-in_default-checked_mul : goal.returns-in_default-checked_mul
 returns-in_default-checked_mul c =
-    sym (small_told _ _ _ _ _ (large c.before.before.before.before) (sym c.checked_mul-2.ensures ∙ c.in_default-checked_mul.is))
+    sym (small_told _ _ _ _ _ (sym c.checked_mul.ensures ∙ c.in-Fits.is) (sym c.checked_mul-2.ensures ∙ c.in_default-checked_mul.is))
 
 pub returns-in_default-checked_mul-2 : goal.returns-in_default-checked_mul-2
 returns-in_default-checked_mul-2 c =
-    sym (first_past _ _ _ _ _ (large (sized c.before.before.before.before.before.before)) _ (small c.before.before.before.before.before.before) c.if-k-nb_a_large.true (sym c.checked_mul-then-k-nb_a_large.ensures ∙ c.in_default-checked_mul-2.is))
+    sym (first_past _ _ _ _ _ (sym c.checked_mul.ensures ∙ c.in-Fits.is) _ (sym c.checked_mul-2.ensures ∙ c.in-Fits-checked_mul.is) c.if-k-nb_a_large.true (sym c.checked_mul-then-k-nb_a_large.ensures ∙ c.in_default-checked_mul-2.is))
 
 pub returns-then-k-nb_a_large : goal.returns-then-k-nb_a_large
 returns-then-k-nb_a_large c =
-    c.reached.ensures ∙ sym (first_fits _ _ _ _ _ (large (sized c.before.before.before.before.before.before.before.before)) _ (small c.before.before.before.before.before.before.before.before) c.if-k-nb_a_large.true _ (sym c.checked_mul-then-k-nb_a_large.ensures ∙ c.in-Fits-checked_mul-2.is))
+    c.reached.ensures ∙ sym (first_fits _ _ _ _ _ (sym c.checked_mul.ensures ∙ c.in-Fits.is) _ (sym c.checked_mul-2.ensures ∙ c.in-Fits-checked_mul.is) c.if-k-nb_a_large.true _ (sym c.checked_mul-then-k-nb_a_large.ensures ∙ c.in-Fits-checked_mul-2.is))
 
 pub returns-in_default-checked_mul-3 : goal.returns-in_default-checked_mul-3
 returns-in_default-checked_mul-3 c =
-    sym (small_offset_past _ _ _ _ _ (large (sized c.before.before.before.before.before.before)) _ (small c.before.before.before.before.before.before) c.if-k-nb_a_large.false (sym c.checked_mul-3.ensures ∙ c.in_default-checked_mul-3.is))
+    sym (small_offset_past _ _ _ _ _ (sym c.checked_mul.ensures ∙ c.in-Fits.is) _ (sym c.checked_mul-2.ensures ∙ c.in-Fits-checked_mul.is) c.if-k-nb_a_large.false (sym c.checked_mul-3.ensures ∙ c.in_default-checked_mul-3.is))
 
 pub returns-in_default-checked_mul-4 : goal.returns-in_default-checked_mul-4
 returns-in_default-checked_mul-4 c =
-    sym (large_offset_past _ _ _ _ _ (large (sized c.before.before.before.before.before.before.before.before.before.before)) _ (small c.before.before.before.before.before.before.before.before.before.before) c.if-k-nb_a_large.false (sym c.checked_mul-4.ensures ∙ c.in_default-checked_mul-4.is))
+    sym (large_offset_past _ _ _ _ _ (sym c.checked_mul.ensures ∙ c.in-Fits.is) _ (sym c.checked_mul-2.ensures ∙ c.in-Fits-checked_mul.is) c.if-k-nb_a_large.false (sym c.checked_mul-4.ensures ∙ c.in_default-checked_mul-4.is))
 
 pub returns-in_default-checked_add : goal.returns-in_default-checked_add
 returns-in_default-checked_add c =
     let after = sym c.checked_mul-3.ensures ∙ c.in-Fits-checked_mul-3.is in
     let before = sym c.checked_mul-4.ensures ∙ c.in-Fits-checked_mul-4.is in
-    sym (offset_past _ _ _ _ _ (large (sized c.before.before.before.before.before.before.before.before.before.before.before.before.before.before)) _ (small c.before.before.before.before.before.before.before.before.before.before.before.before.before.before) c.if-k-nb_a_large.false _ _ after before (sym c.checked_add.ensures ∙ c.in_default-checked_add.is))
+    sym (offset_past _ _ _ _ _ (sym c.checked_mul.ensures ∙ c.in-Fits.is) _ (sym c.checked_mul-2.ensures ∙ c.in-Fits-checked_mul.is) c.if-k-nb_a_large.false _ _ after before (sym c.checked_add.ensures ∙ c.in_default-checked_add.is))
 
 pub returns : goal.returns
 returns c =
     let after = sym c.checked_mul-3.ensures ∙ c.in-Fits-checked_mul-3.is in
     let before = sym c.checked_mul-4.ensures ∙ c.in-Fits-checked_mul-4.is in
-    c.reached-2.ensures ∙ sym (later_fits _ _ _ _ _ (large (sized c.before.before.before.before.before.before.before.before.before.before.before.before.before.before.before.before)) _ (small c.before.before.before.before.before.before.before.before.before.before.before.before.before.before.before.before) c.if-k-nb_a_large.false _ _ after before _ (sym c.checked_add.ensures ∙ c.in-Fits-checked_add.is))
+    c.reached-2.ensures ∙ sym (later_fits _ _ _ _ _ (sym c.checked_mul.ensures ∙ c.in-Fits.is) _ (sym c.checked_mul-2.ensures ∙ c.in-Fits-checked_mul.is) c.if-k-nb_a_large.false _ _ after before _ (sym c.checked_add.ensures ∙ c.in-Fits-checked_add.is))

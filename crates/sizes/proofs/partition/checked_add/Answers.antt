@@ -1,5 +1,5 @@
 -- `sizes::partition::checked_add` meets its contract.
-use Rattle.std.proofs.Common.{sym, arith, rules}
+use Rattle.std.proofs.Common.{sym, arith}
 use Rattle.sizes.proofs.Lengths.{checked_fits, checked_past}
 use Rattle.sizes.proofs.partition.checked_add.Goals as goal
 

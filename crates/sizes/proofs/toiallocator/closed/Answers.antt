@@ -1,7 +1,6 @@
-use Rattle.std.proofs.Common.{◌-◌, arith, rules}
-use Rattle.sizes.specs.Limits.{toi_entries}
+use Rattle.std.proofs.Common.{arith, rules}
 use Rattle.sizes.specs.Allocator.{no_entry}
-use Rattle.sizes.proofs.Arrays.{Closing, closing_starts, closing_more, closing_ends}
+use Rattle.sizes.proofs.Arrays.{closing_starts, closing_more, closing_ends}
 use Rattle.sizes.proofs.toiallocator.closed.Goals as goal
 
 pub loop-j-init : goal.loop-j-init

@@ -1,7 +1,7 @@
-use Rattle.std.proofs.Common.{◌-◌, arith, rules}
+use Rattle.std.proofs.Common.{◌-◌}
 use Rattle.sizes.specs.Limits.{toi_entries}
 use Rattle.sizes.specs.Allocator.{no_entry}
-use Rattle.sizes.proofs.Arrays.{Closing, closing_starts, closing_more, closing_ends}
+use Rattle.sizes.proofs.Arrays.{Closing}
 use Rattle.sizes.proofs.toiallocator.closed.Given as goal
 
 abbrev pub invariant-loop-j : goal.invariant-loop-j

@@ -1,7 +1,6 @@
 -- `wire::record::is_good` meets its contract: each value is tested against its width, and then the numbers.
 use mathlib.Core.Path.{sym, ◌∙◌}
 use native.Mathlib.Omega.{arith}
-use borrow.Author.Rules.{rules}
 use Rattle.wire.proofs.RecordLaws.{wide_bad, fit_good}
 use Rattle.wire.proofs.record.is_good.Goals as goal
 

@@ -1,6 +1,5 @@
 -- `wire::record::last` meets its contract.
 use native.Mathlib.Omega.{arith}
-use borrow.Author.Rules.{rules}
 use Rattle.wire.proofs.RecordLaws.{last_sum}
 use Rattle.wire.proofs.record.last.Goals as goal
 

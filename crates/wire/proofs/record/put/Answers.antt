@@ -2,7 +2,6 @@
 use mathlib.Core.Path.{◌≡◌, subst}
 use Prim.Native.Nat.{◌+◌, ◌-◌}
 use native.Mathlib.Omega.{arith}
-use borrow.Author.Rules.{rules}
 use Rattle.wire.proofs.WordLaws.{Putting, put_none, put_one, put_all}
 use Rattle.wire.proofs.record.put.Goals as goal
 

@@ -1,8 +1,4 @@
-use mathlib.Core.Path.{◌≡◌, subst}
-use Prim.Native.Nat.{◌+◌, ◌-◌}
-use native.Mathlib.Omega.{arith}
-use borrow.Author.Rules.{rules}
-use Rattle.wire.proofs.WordLaws.{Putting, put_none, put_one, put_all}
+use Rattle.wire.proofs.WordLaws.{Putting}
 use Rattle.wire.proofs.record.put.Given as goal
 
 abbrev pub invariant-loop-i : goal.invariant-loop-i

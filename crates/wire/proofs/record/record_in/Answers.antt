@@ -1,6 +1,5 @@
 -- `wire::record::record_in` meets its contract.
 use mathlib.Core.Path.{refl}
-use borrow.Author.Rules.{rules}
 use Rattle.wire.specs.RecordWords.{record_in}
 use Rattle.wire.proofs.record.record_in.Goals as goal
 

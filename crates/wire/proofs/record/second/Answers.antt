@@ -1,6 +1,5 @@
 -- `wire::record::second` meets its contract: no sum passes 64 bits, since the values fit.
 use native.Mathlib.Omega.{arith}
-use borrow.Author.Rules.{rules}
 use Rattle.wire.proofs.RecordLaws.{good_fit, second_sum}
 use Rattle.wire.proofs.record.second.Goals as goal
 

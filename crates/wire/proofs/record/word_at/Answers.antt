@@ -1,8 +1,7 @@
 -- `wire::record::word_at` meets its contract. The loop's invariant: w is what the first i bytes spell.
 use mathlib.Core.Path.{◌≡◌, refl, sym, ◌∙◌, ap, subst}
-use Prim.Native.Nat.{◌+◌, ◌-◌, ◌*◌, ◌<◌, ◌≤◌, ◌^◌}
+use Prim.Native.Nat.{◌+◌, ◌*◌, ◌<◌, ◌^◌}
 use native.Mathlib.Omega.{arith}
-use borrow.Author.Rules.{rules}
 use lib.ListN.{take, drop, get_or}
 use Rattle.wire.specs.Packing.{join, number_spelled}
 use Rattle.wire.proofs.WordLaws.{word_more, word_room, word_fits}
@@ -25,8 +24,7 @@ overflow_add-w-in-loop-i c =
 
 pub loop-i-preserved : goal.loop-i-preserved
 loop-i-preserved c =
-    let l = c.loop-i in
-    (
+    let l = c.loop-i in (
       omega arith,
       ap (λ n. n * 256 + get_or c.args.bytes.now (c.args.at + l.i) 0) l.invariant.1 ∙ sym (word_more c.args.bytes.now c.args.at l.i (omega arith)),
       word_room l.w (get_or c.args.bytes.now (c.args.at + l.i) 0) l.i l.invariant.2 (omega (arith, c.shared_slice_known-1.given (c.args.at + l.i))),

@@ -1,10 +1,7 @@
-use mathlib.Core.Path.{◌≡◌, refl, sym, ◌∙◌, ap, subst}
-use Prim.Native.Nat.{◌+◌, ◌-◌, ◌*◌, ◌<◌, ◌≤◌, ◌^◌}
-use native.Mathlib.Omega.{arith}
-use borrow.Author.Rules.{rules}
-use lib.ListN.{take, drop, get_or}
-use Rattle.wire.specs.Packing.{join, number_spelled}
-use Rattle.wire.proofs.WordLaws.{word_more, word_room, word_fits}
+use mathlib.Core.Path.{◌≡◌}
+use Prim.Native.Nat.{◌-◌, ◌*◌, ◌<◌, ◌≤◌, ◌^◌}
+use lib.ListN.{take, drop}
+use Rattle.wire.specs.Packing.{number_spelled}
 use Rattle.wire.proofs.record.word_at.Given as goal
 
 abbrev pub invariant-loop-i : goal.invariant-loop-i

@@ -1,5 +1,4 @@
 use mathlib.Core.Path.{sym, ◌∙◌}
-use borrow.Author.Rules.{rules}
 use Rattle.lifecycle.specs.Announce.{bad_fdt_of}
 use Rattle.lifecycle.proofs.announce.Announcer.bad_fdt_part.Goals as goal
 

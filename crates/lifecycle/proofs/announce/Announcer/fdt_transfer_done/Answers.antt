@@ -1,4 +1,3 @@
-use borrow.Author.Rules.{rules}
 use borrow.Author.Tests.{not-true, not-false}
 use Rattle.lifecycle.specs.Announce.{current_done}
 use Rattle.lifecycle.proofs.announce.Announcer.fdt_transfer_done.Goals as goal

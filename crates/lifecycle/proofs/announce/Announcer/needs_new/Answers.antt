@@ -1,5 +1,4 @@
 use borrow.Author.Tests.{eq-eqb, ne_eqb, not-true, not-false}
-use borrow.Author.Rules.{rules}
 use Rattle.lifecycle.specs.Announce.{needs_new_of}
 use Rattle.lifecycle.proofs.announce.Announcer.needs_new.Goals as goal
 

@@ -1,4 +1,3 @@
-use borrow.Author.Rules.{rules}
 use Rattle.lifecycle.proofs.announce.Announcer.new.Goals as goal
 
 pub returns : goal.returns

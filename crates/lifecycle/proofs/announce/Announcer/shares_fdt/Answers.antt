@@ -1,12 +1,9 @@
-use mathlib.Core.Path.{◌≡◌, refl, sym, ◌∙◌}
-use Prim.Native.Nat.{◌-◌, ◌≤◌}
+use mathlib.Core.Path.{refl, sym, ◌∙◌}
 use native.Mathlib.Omega.{arith}
 use borrow.Author.Rules.{rules}
 use borrow.Author.Tests.{not-true, not-false}
-use lib.ListN.{length, take, drop}
-use Rattle.sizes.specs.Words.{any}
 use Rattle.sizes.proofs.Arrays.{any_hit, any_miss, any_end}
-use Rattle.lifecycle.specs.Announce.{no_instance, waiting_of, held_of, shares_fdt_of}
+use Rattle.lifecycle.specs.Announce.{no_instance, held_of, shares_fdt_of}
 use Rattle.lifecycle.proofs.announce.Announcer.shares_fdt.Goals as goal
 
 pub loop-j-init : goal.loop-j-init

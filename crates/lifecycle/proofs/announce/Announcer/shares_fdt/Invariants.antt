@@ -1,12 +1,8 @@
-use mathlib.Core.Path.{◌≡◌, refl, sym, ◌∙◌}
+use mathlib.Core.Path.{◌≡◌}
 use Prim.Native.Nat.{◌-◌, ◌≤◌}
-use native.Mathlib.Omega.{arith}
-use borrow.Author.Rules.{rules}
-use borrow.Author.Tests.{not-true, not-false}
 use lib.ListN.{length, take, drop}
 use Rattle.sizes.specs.Words.{any}
-use Rattle.sizes.proofs.Arrays.{any_hit, any_miss, any_end}
-use Rattle.lifecycle.specs.Announce.{no_instance, waiting_of, held_of, shares_fdt_of}
+use Rattle.lifecycle.specs.Announce.{waiting_of, held_of}
 use Rattle.lifecycle.proofs.announce.Announcer.shares_fdt.Given as goal
 
 abbrev pub invariant-loop-j : goal.invariant-loop-j

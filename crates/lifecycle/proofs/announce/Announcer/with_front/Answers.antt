@@ -1,5 +1,4 @@
 use borrow.Author.Tests.{eq-eqb, ne_eqb}
-use borrow.Author.Rules.{rules}
 use Rattle.lifecycle.specs.Announce.{front_of}
 use Rattle.lifecycle.proofs.announce.Announcer.with_front.Goals as goal
 

@@ -1,4 +1,3 @@
-use borrow.Author.Rules.{rules}
 use Rattle.lifecycle.specs.Announce.{queued_of}
 use Rattle.lifecycle.proofs.announce.Announcer.with_published.Goals as goal
 

@@ -1,4 +1,3 @@
-use borrow.Author.Rules.{rules}
 use borrow.Author.Tests.{not-true, not-false}
 use Rattle.lifecycle.specs.Announce.{start_of}
 use Rattle.lifecycle.proofs.announce.Announcer.with_start.Goals as goal
@@ -9,8 +8,8 @@ returns-then-not-self c = rw (not-true c.args.self.has_current c.if-not-self.tru
 
 pub returns-then-not-may_start_now : goal.returns-then-not-may_start_now
 unfolding start_of
-returns-then-not-may_start_now c = rw (← c.may_start_now.ensures, not-false c.args.self.has_current c.if-not-self.false, not-true c.may_start_now.result c.if-not-may_start_now.true)
+returns-then-not-may_start_now c = rw (← c.may_start_now.ensures, not-false c.args.self.has_current c.if-not-self.false, c.if-not-may_start_now.true)
 
 pub returns : goal.returns
 unfolding start_of
-returns c = rw (c.started-self.ensures, ← c.may_start_now.ensures, not-false c.args.self.has_current c.if-not-self.false, not-false c.may_start_now.result c.if-not-may_start_now.false)
+returns c = rw (c.started-self.ensures, ← c.may_start_now.ensures, not-false c.args.self.has_current c.if-not-self.false, c.if-not-may_start_now.false)

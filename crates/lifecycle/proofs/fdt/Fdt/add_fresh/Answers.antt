@@ -1,5 +1,4 @@
 use mathlib.Core.Path.{sym, ◌∙◌, ap}
-use borrow.Author.Rules.{rules}
 use Rattle.lifecycle.proofs.FdtLaws.{said_some, said_none, free_found, fresh_none, fresh_full, fresh_some}
 use Rattle.sizes.specs.declared.toiallocator.Allocated.{Allocated}
 use Rattle.lifecycle.proofs.fdt.Fdt.add_fresh.Goals as goal

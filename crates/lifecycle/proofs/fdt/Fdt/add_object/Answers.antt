@@ -1,5 +1,4 @@
 use mathlib.Core.Path.{sym, ◌∙◌, ap}
-use borrow.Author.Rules.{rules}
 use Rattle.lifecycle.proofs.FdtLaws.{added_complete, added_sizes, added_part, added_numbered}
 use Rattle.lifecycle.specs.FdtCalls.{numbered_of}
 use Rattle.lifecycle.specs.Setup.{bad_blocks}

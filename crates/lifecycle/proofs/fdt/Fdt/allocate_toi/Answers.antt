@@ -1,4 +1,3 @@
-use borrow.Author.Rules.{rules}
 use Rattle.lifecycle.specs.FdtCalls.{reserved_of}
 use Rattle.lifecycle.proofs.fdt.Fdt.allocate_toi.Goals as goal
 

@@ -1,4 +1,3 @@
-use borrow.Author.Rules.{rules}
 use Rattle.lifecycle.proofs.fdt.Fdt.announced.Goals as goal
 
 pub returns : goal.returns

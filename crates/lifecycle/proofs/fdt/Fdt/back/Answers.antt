@@ -1,4 +1,3 @@
-use borrow.Author.Rules.{rules}
 use Rattle.lifecycle.specs.FdtCalls.{back_of}
 use Rattle.lifecycle.proofs.fdt.Fdt.back.Goals as goal
 

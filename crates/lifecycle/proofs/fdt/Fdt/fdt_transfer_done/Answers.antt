@@ -1,4 +1,3 @@
-use borrow.Author.Rules.{rules}
 use Rattle.lifecycle.specs.FdtCalls.{fdt_done_of}
 use Rattle.lifecycle.proofs.fdt.Fdt.fdt_transfer_done.Goals as goal
 

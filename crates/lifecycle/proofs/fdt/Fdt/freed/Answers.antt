@@ -1,4 +1,3 @@
-use borrow.Author.Rules.{rules}
 use Rattle.lifecycle.specs.FdtCalls.{freed_of}
 use Rattle.lifecycle.proofs.fdt.Fdt.freed.Goals as goal
 

@@ -1,5 +1,4 @@
 use mathlib.Core.Path.{sym, ap}
-use borrow.Author.Rules.{rules}
 use Rattle.lifecycle.specs.FdtCalls.{is_added_of}
 use Rattle.sizes.specs.Words.{given}
 use Rattle.lifecycle.proofs.FdtLaws.{said_some, said_none}

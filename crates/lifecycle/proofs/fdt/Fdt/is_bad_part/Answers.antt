@@ -1,5 +1,4 @@
 use mathlib.Core.Path.{sym, ◌∙◌}
-use borrow.Author.Rules.{rules}
 use Rattle.lifecycle.specs.FdtCalls.{bad_part_of}
 use Rattle.lifecycle.proofs.fdt.Fdt.is_bad_part.Goals as goal
 

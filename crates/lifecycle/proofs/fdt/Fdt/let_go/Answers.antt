@@ -1,4 +1,3 @@
-use borrow.Author.Rules.{rules}
 use Rattle.lifecycle.specs.FdtCalls.{let_go_of}
 use Rattle.lifecycle.proofs.fdt.Fdt.let_go.Goals as goal
 

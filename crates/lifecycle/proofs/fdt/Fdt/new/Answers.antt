@@ -1,4 +1,3 @@
-use borrow.Author.Rules.{rules}
 use Rattle.lifecycle.specs.FdtCalls.{opening_fdt}
 use Rattle.lifecycle.proofs.fdt.Fdt.new.Goals as goal
 

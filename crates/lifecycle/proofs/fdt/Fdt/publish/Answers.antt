@@ -1,5 +1,4 @@
 use borrow.Author.Tests.{le-leb, lt-leb, eq-eqb, ne_eqb}
-use borrow.Author.Rules.{rules}
 use Rattle.lifecycle.specs.FdtCalls.{publish_of}
 use Rattle.lifecycle.proofs.PublishLaws.{queued_by}
 use Rattle.lifecycle.proofs.fdt.Fdt.publish.Goals as goal

@@ -1,4 +1,3 @@
-use borrow.Author.Rules.{rules}
 use Rattle.lifecycle.specs.FdtCalls.{put_of}
 use Rattle.lifecycle.proofs.fdt.Fdt.put.Goals as goal
 

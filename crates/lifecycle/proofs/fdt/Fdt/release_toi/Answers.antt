@@ -1,4 +1,3 @@
-use borrow.Author.Rules.{rules}
 use Rattle.lifecycle.specs.FdtCalls.{released_of}
 use Rattle.lifecycle.proofs.fdt.Fdt.release_toi.Goals as goal
 

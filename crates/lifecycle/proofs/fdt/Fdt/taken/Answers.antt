@@ -1,5 +1,4 @@
 use native.Mathlib.Omega.{arith}
-use borrow.Author.Rules.{rules}
 use Rattle.lifecycle.proofs.FdtLaws.{holders_few}
 use Rattle.lifecycle.specs.FdtCalls.{taken_at}
 use Rattle.lifecycle.proofs.fdt.Fdt.taken.Goals as goal

@@ -1,4 +1,3 @@
-use borrow.Author.Rules.{rules}
 use Rattle.lifecycle.specs.FdtCalls.{draft_test_of}
 use Rattle.lifecycle.proofs.fdt.Fdt.test_draft.Goals as goal
 

@@ -1,5 +1,4 @@
 use mathlib.Core.Path.{sym, ◌∙◌, ap}
-use borrow.Author.Rules.{rules}
 use Rattle.lifecycle.proofs.FdtLaws.{sends_held, sends_room, done_past, done_still, done_unlisted, done_expired, done_back}
 use Rattle.lifecycle.specs.Lifecycle.{expired}
 use Rattle.lifecycle.specs.FileDesc.{plan_of, life_of}
@@ -11,14 +10,14 @@ pub returns-then-k-ge-OBJECT_SLOTS : goal.returns-then-k-ge-OBJECT_SLOTS
 returns-then-k-ge-OBJECT_SLOTS c = sym (done_past c.args.now c.args.k c.args.self c.requires c.if-k-ge-OBJECT_SLOTS.true)
 
 pub returns-then-not-v : goal.returns-then-not-v
-returns-then-not-v c = sym (done_still c.args.now c.args.k c.args.self c.if-not-v.true)
+returns-then-not-v c = sym (done_still c.args.now c.args.k c.args.self (not-true _ c.if-not-v.true))
 
 pub returns-then-not-v-2 : goal.returns-then-not-v-2
-returns-then-not-v-2 c = c.let_go.ensures ∙ sym (done_unlisted c.args.now c.args.k c.args.self c.if-not-v.false c.if-not-v-2.true)
+returns-then-not-v-2 c = c.let_go.ensures ∙ sym (done_unlisted c.args.now c.args.k c.args.self (not-false _ c.if-not-v.false) (not-true _ c.if-not-v-2.true))
 
 pub returns-then-is_expired : goal.returns-then-is_expired
 returns-then-is_expired c = let x = sym (ap (λ (d : FileDesc). expired (plan_of d.plan) (life_of d.life)) c.transfer_done.ensures) ∙ sym c.is_expired.ensures ∙ c.if-is_expired.true in
-    c.let_go-then-is_expired.ensures ∙ sym (done_expired c.args.now c.args.k c.args.self c.if-not-v.false c.if-not-v-2.false x)
+    c.let_go-then-is_expired.ensures ∙ sym (done_expired c.args.now c.args.k c.args.self (not-false _ c.if-not-v.false) (not-false _ c.if-not-v-2.false) x)
 
 pub back-requires : goal.back-requires
 back-requires c = let h = c.if-k-ge-OBJECT_SLOTS.false in
@@ -27,4 +26,4 @@ back-requires c = let h = c.if-k-ge-OBJECT_SLOTS.false in
 
 pub returns : goal.returns
 returns c = let x = sym (ap (λ (d : FileDesc). expired (plan_of d.plan) (life_of d.life)) c.transfer_done.ensures) ∙ sym c.is_expired.ensures ∙ c.if-is_expired.false in
-    c.back.ensures ∙ sym (done_back c.args.now c.args.k c.args.self c.if-not-v.false c.if-not-v-2.false x)
+    c.back.ensures ∙ sym (done_back c.args.now c.args.k c.args.self (not-false _ c.if-not-v.false) (not-false _ c.if-not-v-2.false) x)

@@ -4,7 +4,6 @@ use Prim.Native.Nat.{◌-◌, ◌<◌}
 use native.Mathlib.Omega.{arith}
 use lib.ListN.{length, set}
 use lib.Seq.{get_or-set_same, set-set}
-use borrow.Author.Rules.{rules}
 use Rattle.lifecycle.specs.declared.slots.Slot.{Slot}
 use Rattle.lifecycle.specs.Slots.{no_slot, slot_at}
 use Rattle.lifecycle.specs.FdtCalls.{with_slots, unlisted_of}

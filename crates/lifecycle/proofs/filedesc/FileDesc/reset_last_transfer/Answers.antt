@@ -1,4 +1,3 @@
-use borrow.Author.Rules.{rules}
 use Rattle.lifecycle.proofs.filedesc.FileDesc.reset_last_transfer.Goals as goal
 
 pub returns : goal.returns

@@ -1,5 +1,4 @@
 use borrow.Author.Tests.{eq-eqb, ne_eqb}
-use borrow.Author.Rules.{rules}
 use Rattle.lifecycle.specs.FileDesc.{startable_file}
 use Rattle.lifecycle.proofs.filedesc.FileDesc.should_transfer_now.Goals as goal
 

@@ -1,4 +1,3 @@
-use borrow.Author.Rules.{rules}
 use Rattle.lifecycle.proofs.filedesc.FileDesc.transfer_started.Goals as goal
 
 pub returns : goal.returns

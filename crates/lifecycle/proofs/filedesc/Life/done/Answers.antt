@@ -1,4 +1,3 @@
-use borrow.Author.Rules.{rules}
 use Rattle.lifecycle.specs.FileDesc.{done_life}
 use Rattle.lifecycle.proofs.filedesc.Life.done.Goals as goal
 

@@ -1,4 +1,3 @@
-use borrow.Author.Rules.{rules}
 use Rattle.lifecycle.specs.FileDesc.{reset_life}
 use Rattle.lifecycle.proofs.filedesc.Life.reset.Goals as goal
 

@@ -1,5 +1,4 @@
 use native.Mathlib.Omega.{arith}
-use borrow.Author.Rules.{rules}
 use borrow.Author.Tests.{not-true, not-false}
 use Rattle.lifecycle.proofs.FileDescLaws.{ticked_none, ticked_past, ticked_on}
 use Rattle.lifecycle.proofs.filedesc.Pace.ticked.Goals as goal

@@ -1,5 +1,4 @@
 use native.Mathlib.Omega.{arith}
-use borrow.Author.Rules.{rules}
 use Rattle.lifecycle.specs.Lifecycle.{is_last}
 use Rattle.lifecycle.proofs.FileDescLaws.{last_said, last_none}
 use Rattle.lifecycle.proofs.filedesc.Plan.is_last_transfer.Goals as goal

@@ -1,5 +1,4 @@
 use mathlib.Core.Path.{◌∙◌, ap}
-use borrow.Author.Rules.{rules}
 use borrow.Author.Tests.{not-true, not-false}
 use Rattle.lifecycle.specs.Lifecycle.{round_due}
 use lib.Dec.{ltb}

@@ -1,5 +1,4 @@
-use borrow.Author.Rules.{rules}
-use Rattle.lifecycle.specs.FileDesc.{plan_named, with_target}
+use Rattle.lifecycle.specs.FileDesc.{plan_named}
 use Rattle.lifecycle.proofs.filedesc.Plan.new.Goals as goal
 
 pub returns : goal.returns

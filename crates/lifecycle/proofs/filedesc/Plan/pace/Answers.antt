@@ -1,4 +1,3 @@
-use borrow.Author.Rules.{rules}
 use borrow.Author.Tests.{not-true, not-false}
 use Rattle.lifecycle.specs.Lifecycle.{tick_of}
 use Rattle.lifecycle.specs.FileDesc.{pace_at}

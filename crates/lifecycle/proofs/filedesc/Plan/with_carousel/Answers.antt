@@ -1,4 +1,3 @@
-use borrow.Author.Rules.{rules}
 use Rattle.lifecycle.specs.FileDesc.{with_carousel}
 use Rattle.lifecycle.proofs.filedesc.Plan.with_carousel.Goals as goal
 

@@ -1,4 +1,3 @@
-use borrow.Author.Rules.{rules}
 use Rattle.lifecycle.specs.FileDesc.{with_target}
 use Rattle.lifecycle.proofs.filedesc.Plan.with_target.Goals as goal
 

@@ -1,4 +1,4 @@
-use Rattle.std.proofs.Common.{sym, subst, arith, rules}
+use Rattle.std.proofs.Common.{sym, subst, arith}
 use Rattle.sizes.specs.Allocator.{Searchable}
 use Rattle.sizes.proofs.AllocatorLaws.{given_by, full_by, gives, searchable}
 use Rattle.sizes.proofs.toiallocator.ToiAllocator.allocate.Goals as goal

@@ -1,4 +1,4 @@
-use Rattle.std.proofs.Common.{sym, ap, ◌∙◌, arith, rules}
+use Rattle.std.proofs.Common.{sym, ap, ◌∙◌, arith}
 use Rattle.sizes.specs.Allocator.{entry_gone}
 use Rattle.sizes.proofs.AllocatorLaws.{found_inside, dropped_some, dropped_none, becomes, valid_dropped}
 use Rattle.sizes.specs.Place.{place_said}

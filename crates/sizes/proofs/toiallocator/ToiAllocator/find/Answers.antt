@@ -1,7 +1,6 @@
-use Rattle.std.proofs.Common.{◌≡◌, ◌-◌, ◌≤◌, length, take, sym, ◌∙◌, arith, rules}
-use Rattle.sizes.specs.Words.{place}
+use Rattle.std.proofs.Common.{◌≤◌, length, sym, ◌∙◌, arith, rules}
 use Rattle.sizes.specs.Allocator.{no_entry, entry_is}
-use Rattle.sizes.proofs.Arrays.{ahead, place_start, place_hit, place_miss, place_end}
+use Rattle.sizes.proofs.Arrays.{place_start, place_hit, place_miss, place_end}
 use Rattle.sizes.proofs.toiallocator.ToiAllocator.find.Goals as goal
 
 pub loop-i-init : goal.loop-i-init

@@ -1,7 +1,7 @@
-use Rattle.std.proofs.Common.{◌≡◌, ◌-◌, ◌≤◌, length, take, sym, ◌∙◌, arith, rules}
+use Rattle.std.proofs.Common.{◌≡◌, ◌-◌, ◌≤◌, length, take}
 use Rattle.sizes.specs.Words.{place}
-use Rattle.sizes.specs.Allocator.{no_entry, entry_is}
-use Rattle.sizes.proofs.Arrays.{ahead, place_start, place_hit, place_miss, place_end}
+use Rattle.sizes.specs.Allocator.{entry_is}
+use Rattle.sizes.proofs.Arrays.{ahead}
 use Rattle.sizes.proofs.toiallocator.ToiAllocator.find.Given as goal
 
 abbrev pub invariant-loop-i : goal.invariant-loop-i

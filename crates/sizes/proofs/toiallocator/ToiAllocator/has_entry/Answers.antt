@@ -1,6 +1,5 @@
-use Rattle.std.proofs.Common.{◌≡◌, ◌-◌, ◌≤◌, eqb, length, take, drop, sym, ◌∙◌, arith, rules, eq-eqb, ne_eqb}
-use Rattle.sizes.specs.Words.{any, has}
-use Rattle.sizes.specs.Allocator.{held, noted, no_entry}
+use Rattle.std.proofs.Common.{eqb, sym, ◌∙◌, arith, rules, eq-eqb, ne_eqb}
+use Rattle.sizes.specs.Allocator.{noted, no_entry}
 use Rattle.sizes.specs.declared.toiallocator.Entry.{Entry}
 use Rattle.sizes.proofs.Lists.{any_map}
 use Rattle.sizes.proofs.Arrays.{any_hit, any_miss, any_end}

@@ -1,4 +1,4 @@
-use Rattle.std.proofs.Common.{sym, ap, ◌∙◌, rules}
+use Rattle.std.proofs.Common.{sym, ap, ◌∙◌}
 use Rattle.sizes.specs.Words.{given}
 use Rattle.sizes.specs.Place.{place_said}
 use Rattle.sizes.specs.Allocator.{noted}

@@ -1,4 +1,3 @@
-use Rattle.std.proofs.Common.{rules}
 use Rattle.sizes.proofs.AllocatorLaws.{opened_by}
 use Rattle.sizes.proofs.toiallocator.ToiAllocator.new.Goals as goal
 

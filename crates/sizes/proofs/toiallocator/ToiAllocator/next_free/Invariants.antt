@@ -1,9 +1,6 @@
-use Rattle.std.proofs.Common.{◌≡◌, sym, ◌∙◌, arith, rules}
-use borrow.Author.Tests.{not-true, not-false}
+use Rattle.std.proofs.Common.{◌≡◌}
 use Rattle.sizes.specs.Toi.{free_from, next_toi}
 use Rattle.sizes.specs.Allocator.{held}
-use Rattle.sizes.proofs.ToiLaws.{free_here, free_further, free_end}
-use Rattle.sizes.proofs.AllocatorLaws.{search_start}
 use Rattle.sizes.proofs.toiallocator.ToiAllocator.next_free.Given as goal
 
 abbrev pub invariant-loop-left : goal.invariant-loop-left

@@ -1,4 +1,4 @@
-use Rattle.std.proofs.Common.{refl, rules}
+use Rattle.std.proofs.Common.{refl}
 use Rattle.sizes.specs.Allocator.{noting}
 use Rattle.sizes.proofs.toiallocator.ToiAllocator.with_next.Goals as goal
 
