@@ -4,6 +4,7 @@
 usage: python3 tools/respell.py [--list]      at the top of the repository, once, after the kit's port.py
 
 Definitions, constructors, fields and lemmas are in snake case, so that an attribute can name a lemma; types are in camel case.
+The repository's own choice by a test is `when b then x else y`, since `if b then x else y` is the library's, which has another precedence.
 Names of src/, strings, names that Rattle makes, and those of other libraries keep their spelling; so do comments, but for what stands in backticks.
 --list prints the names and what becomes of each, and writes nothing.
 """
@@ -14,6 +15,7 @@ import re
 import sys
 
 ALIAS = re.compile(r"(?<![\w·])([A-Z][A-Za-z]*)·([a-z]\w*)")
+CHOICE = re.compile(r"(?<![^\s(\[{,;=])if(?=[\s◌])")
 WORD = re.compile(r"[^\s(){}\[\],;.\"«»`:|]+")
 DECLARED = re.compile(r"^( *)((?:abbrev |unfoldable |pub |ruleset )*)([^\s(){},:]+)((?: *[({][^=]*[)}])*) :(?: |$)(.*)$")
 TYPED = re.compile(r"^( *)((?:abbrev |unfoldable |pub )*)(record|data) ([^\s(){},:]+)")
@@ -107,6 +109,8 @@ def turn(text, made, kept, code):
         head, tail = line[:at], line[at:]
         parts = re.split(r'("(?:[^"\\]|\\.)*")', head)
         head = "".join(p if p.startswith('"') and i % 2 else WORD.sub(one, p) for i, p in enumerate(parts))
+        if code != "rt" or re.match(r"\s*(ghost use|requires|ensures)\b", head):
+            head = CHOICE.sub("when", head)
         tail = re.sub(r"`[^`]*`", lambda b: WORD.sub(one, b.group(0)), tail)
         out.append(head + tail)
     return "\n".join(out)
@@ -149,7 +153,8 @@ def main(argv):
             for n in names:
                 if n.endswith(".edit"):
                     path = os.path.join(folder, n)
-                    write(path, turn(read(path), made, set(), "rt"))
+                    text = read(path)
+                    write(path, turn(text, made, set(), "antt" if re.search(r"(?m)^file: .*\.antt$", text) else "rt"))
     for path in ["README.md"] + [os.path.join(f, n) for f, _, ns in os.walk("docs") for n in ns if n.endswith(".md")]:
         text = read(path)
         write(path, re.sub(r"`[^`\n]*`", lambda b: WORD.sub(lambda m: made.get(m.group(0), m.group(0)), b.group(0)), text))

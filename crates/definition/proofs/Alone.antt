@@ -8,7 +8,7 @@ use native.Mathlib.Omega.{arith}
 use lib.Dec.{eqb, leb}
 use borrow.Author.Tests.{eqb-true, eq-eqb, ne_eqb, leb-false, lt-leb}
 use lib.ListN.{length}
-use Rattle.sizes.specs.Words.{if◌then◌else◌, maybe, given, any, at, over, Each}
+use Rattle.sizes.specs.Words.{when◌then◌else◌, maybe, given, any, at, over, Each}
 use Rattle.sizes.specs.declared.refusal.Refusal.{Refusal}
 use Rattle.sizes.specs.Limits.{object_slots}
 use Rattle.lifecycle.specs.Parts.{shares, past_store}
@@ -28,7 +28,7 @@ use Rattle.sizes.proofs.Lists.{at_map}
 -- what sessions send, as it is seen
 module _ (p : ℕ) (f : ℕ → ℕ) where
   sending_one : (t : Bool) (h : Option Hand) (A B : List Object) → Same_mine p t h → A ≡ seen p f B
-      → maybe A (λ o. o ∷ A) (maybe none (λ (h : Hand). some h.object) (if t then over (retag_held f) h else none)) ≡ seen p f (maybe B (λ o. o ∷ B) (maybe none (λ (h : Hand). some h.object) h))
+      → maybe A (λ o. o ∷ A) (maybe none (λ (h : Hand). some h.object) (when t then over (retag_held f) h else none)) ≡ seen p f (maybe B (λ o. o ∷ B) (maybe none (λ (h : Hand). some h.object) h))
   sending_one true none A B e k = k
   sending_one false none A B e k = k
   sending_one true (some h) A B e k = rw e (ap (λ l. retag f h.object ∷ l) k)
@@ -52,7 +52,7 @@ or_true false = refl
 owned_seen : (p : ℕ) (j : List ℕ) (t : ℕ) (q : List Object) → any (λ o. mine p o && is t o) q ≡ true → any (is (key j t)) (seen p (key j) q) ≡ true
 unfolding is
 owned_seen p j t [] e = e
-owned_seen p j t (o ∷ q) e = (elim (mine p o) as (λ b. ((b && eqb o.toi t) || any (λ o. mine p o && is t o) q) ≡ true → any (is (key j t)) (if b then retag (key j) o ∷ seen p (key j) q else seen p (key j) q) ≡ true) [
+owned_seen p j t (o ∷ q) e = (elim (mine p o) as (λ b. ((b && eqb o.toi t) || any (λ o. mine p o && is t o) q) ≡ true → any (is (key j t)) (when b then retag (key j) o ∷ seen p (key j) q else seen p (key j) q) ≡ true) [
   | true ↦ (elim (eqb o.toi t) as (λ c. eqb o.toi t ≡ c → (c || any (λ o. mine p o && is t o) q) ≡ true → (eqb (key j o.toi) (key j t) || any (is (key j t)) (seen p (key j) q)) ≡ true) [
     | true ↦ λ c e. rw (eq-eqb (key j o.toi) (key j t) (ap (key j) (eqb-true o.toi t c)))
     | false ↦ λ c e. rw (owned_seen p j t q e) (or_true (eqb (key j o.toi) (key j t)))
@@ -64,7 +64,7 @@ owned_seen p j t (o ∷ q) e = (elim (mine p o) as (λ b. ((b && eqb o.toi t) ||
 seen_owned : (p : ℕ) (i : List ℕ) (k : ℕ) (q : List Object) → any (is k) (seen p (key i) q) ≡ true → (t : ℕ) × (any (λ o. mine p o && is t o) q ≡ true) × (key i t ≡ k)
 unfolding is
 seen_owned p i k [] e = absurd (false≢true e)
-seen_owned p i k (o ∷ q) e = (elim (mine p o) as (λ b. mine p o ≡ b → any (is k) (if b then retag (key i) o ∷ seen p (key i) q else seen p (key i) q) ≡ true
+seen_owned p i k (o ∷ q) e = (elim (mine p o) as (λ b. mine p o ≡ b → any (is k) (when b then retag (key i) o ∷ seen p (key i) q else seen p (key i) q) ≡ true
     → (t : ℕ) × (((mine p o && eqb o.toi t) || any (λ o. mine p o && is t o) q) ≡ true) × (key i t ≡ k)) [
       | true ↦ λ m. (elim (eqb (key i o.toi) k) as (λ c. eqb (key i o.toi) k ≡ c → (c || any (is k) (seen p (key i) q)) ≡ true
           → (t : ℕ) × (((mine p o && eqb o.toi t) || any (λ o. mine p o && is t o) q) ≡ true) × (key i t ≡ k)) [
@@ -128,7 +128,7 @@ length_seen p f (o ∷ q) u = rw u.0 (ap suc (length_seen p f q u.1))
 
 length_seen_le : (p : ℕ) (f : ℕ → ℕ) (q : List Object) → length (seen p f q) ≤ length q
 length_seen_le p f [] = omega arith
-length_seen_le p f (o ∷ q) = elim (mine p o) as (λ b. length (if b then retag f o ∷ seen p f q else seen p f q) ≤ suc (length q))
+length_seen_le p f (o ∷ q) = elim (mine p o) as (λ b. length (when b then retag f o ∷ seen p f q else seen p f q) ≤ suc (length q))
     [ true ↦ (let h = length_seen_le p f q in omega arith) | false ↦ (let h = length_seen_le p f q in omega arith) ]
 
 shares_seen : (p : ℕ) (f : ℕ → ℕ) (c : Part) (q : List Object) → Each (λ o. mine p o ≡ true) q → any (λ (o : Object). shares c o.part) (seen p f q) ≡ any (λ (o : Object). shares c o.part) q
@@ -137,7 +137,7 @@ shares_seen p f c (o ∷ q) u = rw u.0 (ap (λ b. shares c o.part || b) (shares_
 
 shares_seen_not : (p : ℕ) (f : ℕ → ℕ) (c : Part) (q : List Object) → any (λ (o : Object). shares c o.part) q ≡ false → any (λ (o : Object). shares c o.part) (seen p f q) ≡ false
 shares_seen_not p f c [] h = refl
-shares_seen_not p f c (o ∷ q) h = elim (mine p o) as (λ b. any (λ (o : Object). shares c o.part) (if b then retag f o ∷ seen p f q else seen p f q) ≡ false) [
+shares_seen_not p f c (o ∷ q) h = elim (mine p o) as (λ b. any (λ (o : Object). shares c o.part) (when b then retag f o ∷ seen p f q else seen p f q) ≡ false) [
   | true ↦ rw (or_left (shares c o.part) (any (λ (o : Object). shares c o.part) q) h) (shares_seen_not p f c q (or_right (shares c o.part) (any (λ (o : Object). shares c o.part) q) h))
   | false ↦ shares_seen_not p f c q (or_right (shares c o.part) (any (λ (o : Object). shares c o.part) q) h)
 ]
@@ -180,11 +180,11 @@ pub add_there : (s : Setup) (p : ℕ) (j : List ℕ) (d : Desk) (i : List ℕ) (
     → is_barred (step s d (Call.add named q)).0 ≡ false → is_barred (step s e (Call.add named' q)).0 ≡ false
 unfolding step
 add_there s p j d i e named named' q r k h =
-    late_unless (add_refusal s e named' q) e (toi_for e named') (admitted s (toi_for e named') q (if given named' then e else reserved s e))
+    late_unless (add_refusal s e named' q) e (toi_for e named') (admitted s (toi_for e named') q (when given named' then e else reserved s e))
     ∙ add_unreached s e named' q (λ z. let r = rows z in (r.0, (r.1, (r.2, tt))))
   where
     on_time : late_no (add_refusal s d named q) ≡ false
-    on_time = sym (late_unless (add_refusal s d named q) d (toi_for d named) (admitted s (toi_for d named) q (if given named then d else reserved s d))) ∙ h
+    on_time = sym (late_unless (add_refusal s d named q) d (toi_for d named) (admitted s (toi_for d named) q (when given named then d else reserved s d))) ∙ h
 
     rows : early_refusal s e q ≡ none → (bad_object_part s e q.part ≡ false) × (not_loose e named' ≡ false) × (no_room e named' ≡ false)
     rows z =
@@ -212,7 +212,7 @@ noted_other r c a j h = go (adding c) refl
     nothing none = refl
     nothing (some t) = refl
 
-    go : (y : Option (Option ℕ × Request)) → adding c ≡ y → maybe j (λ (x : Option ℕ × Request). maybe j (λ t. if eqb x.1.priority r then t ∷ j else j) (number_in a)) y ≡ j
+    go : (y : Option (Option ℕ × Request)) → adding c ≡ y → maybe j (λ (x : Option ℕ × Request). maybe j (λ t. when eqb x.1.priority r then t ∷ j else j) (number_in a)) y ≡ j
     go none e = refl
     go (some x) e = simp (h x e) (nothing (number_in a))
 

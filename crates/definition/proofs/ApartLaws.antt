@@ -8,7 +8,7 @@ use native.Mathlib.Omega.{arith}
 use lib.Dec.{eqb}
 use borrow.Author.Tests.{eqb-true, eqb-false, eq-eqb, ne_eqb, not-false, not-true}
 use lib.ListN.{length, set}
-use Rattle.sizes.specs.Words.{if◌then◌else◌, maybe, given, any, at, has, find, first_of, over, Each, times, one_if}
+use Rattle.sizes.specs.Words.{when◌then◌else◌, maybe, given, any, at, has, find, first_of, over, Each, times, one_if}
 use Rattle.sizes.specs.declared.refusal.Refusal.{Refusal}
 use Rattle.sizes.specs.declared.refusal.Refusal.TheVariants as Because
 use Rattle.lifecycle.specs.declared.parts.Part.{Part}
@@ -29,18 +29,18 @@ use Rattle.definition.proofs.Runs.{fdt_run_goes}
 -- the number that an admission got, the last of them first
 unfoldable pub got : List ℕ → ℕ → ℕ
 got [] k = 0
-got (u ∷ j) k = if eqb (suc (length j)) k then u else got j k
+got (u ∷ j) k = when eqb (suc (length j)) k then u else got j k
 
 -- the key of a number that an admission got is below the count, and the number is found again by it
 pub key_below : (j : List ℕ) (t : ℕ) → has t j ≡ true → key j t ≤ length j
 key_below [] t e = absurd (false≢true e)
-key_below (u ∷ j) t e = (elim (eqb u t) as (λ b. (b || has t j) ≡ true → (if b then suc (length j) else key j t) ≤ suc (length j))
+key_below (u ∷ j) t e = (elim (eqb u t) as (λ b. (b || has t j) ≡ true → (when b then suc (length j) else key j t) ≤ suc (length j))
     [ true ↦ λ e. omega arith | false ↦ λ e. (let h = key_below j t e in omega arith) ]) e
 
 pub got_key : (j : List ℕ) (t : ℕ) → has t j ≡ true → got j (key j t) ≡ t
 unfolding got
 got_key [] t e = absurd (false≢true e)
-got_key (u ∷ j) t e = (elim (eqb u t) as (λ b. eqb u t ≡ b → (b || has t j) ≡ true → (if eqb (suc (length j)) (if b then suc (length j) else key j t) then u else got j (if b then suc (length j) else key j t)) ≡ t) [
+got_key (u ∷ j) t e = (elim (eqb u t) as (λ b. eqb u t ≡ b → (b || has t j) ≡ true → (when eqb (suc (length j)) (when b then suc (length j) else key j t) then u else got j (when b then suc (length j) else key j t)) ≡ t) [
   | true ↦ λ q e. rw (eq-eqb (suc (length j)) (suc (length j)) refl) (eqb-true u t q)
   | false ↦ λ q e. (let h = key_below j t e in rw (ne_eqb (suc (length j)) (key j t) (λ z. absurd (omega arith))) (got_key j t e))
 ]) refl e
@@ -93,7 +93,7 @@ own_run s d (c ∷ l) = let r = own_step s d c in r.0 ∷ own_run s r.1 l
 
 -- the listed object that a session sends
 abbrev pick : Option Hand → Option Object
-pick = maybe none (λ (h : Hand). if h.listed then some h.object else none)
+pick = maybe none (λ (h : Hand). when h.listed then some h.object else none)
 
 -- what a session sends is the priority's exactly where the session is
 abbrev pub Same_mine : ℕ → Bool → Option Hand → Type 0
@@ -106,14 +106,14 @@ same_mine p r j (some h) v = ap (λ n. eqb n p) v.0
 
 module _ (p : ℕ) (f : ℕ → ℕ) where
   sent_one : (t : Bool) (h : Option Hand) (A B : List Object) → Same_mine p t h → A ≡ seen p f B
-      → maybe A (λ o. o ∷ A) (pick (if t then over (retag_held f) h else none)) ≡ seen p f (maybe B (λ o. o ∷ B) (pick h))
+      → maybe A (λ o. o ∷ A) (pick (when t then over (retag_held f) h else none)) ≡ seen p f (maybe B (λ o. o ∷ B) (pick h))
   sent_one true none A B e k = k
   sent_one false none A B e k = k
   sent_one true (some h) A B e k = elim h.listed
-      as (λ b. maybe A (λ o. o ∷ A) (if b then some (retag f h.object) else none) ≡ seen p f (maybe B (λ o. o ∷ B) (if b then some h.object else none)))
+      as (λ b. maybe A (λ o. o ∷ A) (when b then some (retag f h.object) else none) ≡ seen p f (maybe B (λ o. o ∷ B) (when b then some h.object else none)))
       [ true ↦ rw e (ap (λ l. retag f h.object ∷ l) k) | false ↦ k ]
   sent_one false (some h) A B e k = elim h.listed
-      as (λ b. A ≡ seen p f (maybe B (λ o. o ∷ B) (if b then some h.object else none)))
+      as (λ b. A ≡ seen p f (maybe B (λ o. o ∷ B) (when b then some h.object else none)))
       [ true ↦ rw e k | false ↦ k ]
 
 -- objects that sessions send, as they are seen
@@ -200,7 +200,7 @@ listed_of P (x ∷ l) u = go (listed_of P l) x.hand u
     go : (Each P (in_hands l) → Each P (listed_in_hands l)) → (h : Option Hand)
         → Each P (maybe (in_hands l) (λ o. o ∷ in_hands l) (maybe none (λ (h : Hand). some h.object) h)) → Each P (maybe (listed_in_hands l) (λ o. o ∷ listed_in_hands l) (pick h))
     go back none v = back v
-    go back (some h) v = elim h.listed as (λ b. Each P (maybe (listed_in_hands l) (λ o. o ∷ listed_in_hands l) (if b then some h.object else none)))
+    go back (some h) v = elim h.listed as (λ b. Each P (maybe (listed_in_hands l) (λ o. o ∷ listed_in_hands l) (when b then some h.object else none)))
         [ true ↦ (v.0, back v.1) | false ↦ back v.1 ]
 
 -- the listed object of an owned number, as it is seen
@@ -253,7 +253,7 @@ module _ (p : ℕ) (f : ℕ → ℕ) (g g' : Hand → Hand) where
   see_in_hand j x u c = λ i. record { priority = x.priority; hand = go (eqb x.priority p) x.hand (same_mine p x.priority j x.hand u) c i }
     where
       go : (b : Bool) (h : Option Hand) → Same_mine p b h → Commutes h
-          → (if b then over (retag_held f) (maybe none (λ y. some (g y)) h) else none) ≡ maybe none (λ y. some (g' y)) (if b then over (retag_held f) h else none)
+          → (when b then over (retag_held f) (maybe none (λ y. some (g y)) h) else none) ≡ maybe none (λ y. some (g' y)) (when b then over (retag_held f) h else none)
       go true none m c = refl
       go true (some h) m c = ap some (c m)
       go false none m c = refl
@@ -268,7 +268,7 @@ module _ (p : ℕ) (f : ℕ → ℕ) (g g' : Hand → Hand) where
   see_unmoved j x u c = λ i. record { priority = x.priority; hand = go (eqb x.priority p) x.hand (same_mine p x.priority j x.hand u) c i }
     where
       go : (b : Bool) (h : Option Hand) → Same_mine p b h → Idle h
-          → (if b then over (retag_held f) (maybe none (λ y. some (g y)) h) else none) ≡ (if b then over (retag_held f) h else none)
+          → (when b then over (retag_held f) (maybe none (λ y. some (g y)) h) else none) ≡ (when b then over (retag_held f) h else none)
       go true none m c = refl
       go true (some h) m c = ap (λ y. some (retag_held f y)) (c m)
       go false none m c = refl
@@ -289,8 +289,8 @@ published_seen p j d k = λ i. record {
   where
     commute : (h : Option Hand) → Commutes p (key j) marked_hand marked_hand h
     commute none = tt
-    commute (some h) = λ e. elim h.listed as (λ b. retag_held (key j) (if b then record { object = marked h.object; listed = true; encoder = h.encoder; pace = h.pace } else h)
-        ≡ (if b then record { object = marked (retag (key j) h.object); listed = true; encoder = h.encoder; pace = h.pace } else retag_held (key j) h)) [ true ↦ refl | false ↦ refl ]
+    commute (some h) = λ e. elim h.listed as (λ b. retag_held (key j) (when b then record { object = marked h.object; listed = true; encoder = h.encoder; pace = h.pace } else h)
+        ≡ (when b then record { object = marked (retag (key j) h.object); listed = true; encoder = h.encoder; pace = h.pace } else retag_held (key j) h)) [ true ↦ refl | false ↦ refl ]
 
 -- a touch of an owned number, as it is seen
 touched_seen : (p : ℕ) (j : List ℕ) (d : Desk) (t : ℕ) (x : Touch) → Known p j d → has t j ≡ true → touched (key j t) x (view p j d) ≡ view p j (touched t x d)
@@ -311,13 +311,13 @@ touched_seen p j d t x k e = λ i. record {
 
     waits : (o : Object) → Noted p j o → Commute o
     waits o n m = rw (key_eqb j t o.toi e (n m))
-        (elim (eqb o.toi t) as (λ b. (if b then waiting_after x (retag (key j) o) else some (retag (key j) o)) ≡ over (retag (key j)) (if b then waiting_after x o else some o))
+        (elim (eqb o.toi t) as (λ b. (when b then waiting_after x (retag (key j) o) else some (retag (key j) o)) ≡ over (retag (key j)) (when b then waiting_after x o else some o))
         [ true ↦ (renumbered_after (key j) x).0 o | false ↦ refl ])
 
     commute : (r : ℕ) (h : Option Hand) → HeldFits p j r h → Commutes p (key j) (touched_hand t x) (touched_hand (key j t) x) h
     commute r none u = tt
     commute r (some h) u = λ m. rw (key_eqb j t h.object.toi e (u.1 m))
-        (elim (eqb h.object.toi t) as (λ b. retag_held (key j) (if b then hand_after x h else h) ≡ (if b then hand_after x (retag_held (key j) h) else retag_held (key j) h))
+        (elim (eqb h.object.toi t) as (λ b. retag_held (key j) (when b then hand_after x h else h) ≡ (when b then hand_after x (retag_held (key j) h) else retag_held (key j) h))
         [ true ↦ sym ((renumbered_after (key j) x).1 h) | false ↦ refl ])
 
 -- what a session holds has the property
@@ -371,7 +371,7 @@ touched_hidden p j d t x k e = λ i. record {
 -- keys that agree on a list's numbers show the same
 seen_same : (p : ℕ) (f g : ℕ → ℕ) (q : List Object) → Each (λ o. f o.toi ≡ g o.toi) q → seen p f q ≡ seen p g q
 seen_same p f g [] u = refl
-seen_same p f g (o ∷ q) u = elim (mine p o) as (λ b. (if b then retag f o ∷ seen p f q else seen p f q) ≡ (if b then retag g o ∷ seen p g q else seen p g q)) [
+seen_same p f g (o ∷ q) u = elim (mine p o) as (λ b. (when b then retag f o ∷ seen p f q else seen p f q) ≡ (when b then retag g o ∷ seen p g q else seen p g q)) [
   | true ↦ (λ i. record { toi = u.0 i; priority = o.priority; part = o.part; sizes = o.sizes; plan = o.plan; life = o.life } ∷ seen_same p f g q u.1 i)
   | false ↦ seen_same p f g q u.1
 ]
@@ -380,7 +380,7 @@ see_same : (p : ℕ) (f g : ℕ → ℕ) (l : List Session) → Each (λ (x : Se
 see_same p f g [] u = refl
 see_same p f g (x ∷ l) u = λ i. record { priority = x.priority; hand = go (eqb x.priority p) x.hand u.0 i } ∷ see_same p f g l u.1 i
   where
-    go : (b : Bool) (h : Option Hand) → HeldHas (λ o. f o.toi ≡ g o.toi) h → (if b then over (retag_held f) h else none) ≡ (if b then over (retag_held g) h else none)
+    go : (b : Bool) (h : Option Hand) → HeldHas (λ o. f o.toi ≡ g o.toi) h → (when b then over (retag_held f) h else none) ≡ (when b then over (retag_held g) h else none)
     go true none v = refl
     go true (some h) v = λ i. some record {
       object = record { toi = v i; priority = h.object.priority; part = h.object.part; sizes = h.object.sizes; plan = h.object.plan; life = h.object.life };
@@ -445,12 +445,12 @@ reserved_hidden : (p : ℕ) (j : List ℕ) (s : Setup) (d : Desk) → view p j (
 unfolding reserved numbered
 reserved_hidden p j s d = refl
 
-reserved_objects : (s : Setup) (d : Desk) (named : Option ℕ) → objects (if given named then d else reserved s d) ≡ objects d
+reserved_objects : (s : Setup) (d : Desk) (named : Option ℕ) → objects (when given named then d else reserved s d) ≡ objects d
 unfolding reserved numbered objects
 reserved_objects s d none = refl
 reserved_objects s d (some t) = refl
 
-maybe_reserved_hidden : (p : ℕ) (j : List ℕ) (s : Setup) (d : Desk) (named : Option ℕ) → view p j (if given named then d else reserved s d) ≡ view p j d
+maybe_reserved_hidden : (p : ℕ) (j : List ℕ) (s : Setup) (d : Desk) (named : Option ℕ) → view p j (when given named then d else reserved s d) ≡ view p j d
 maybe_reserved_hidden p j s d none = reserved_hidden p j s d
 maybe_reserved_hidden p j s d (some t) = refl
 
@@ -465,7 +465,7 @@ early_seen p j s d q = ap (λ b. first_of ((Because.NoPriority, not b) ∷ (Beca
 
 -- what an add comes to if it is not refused
 abbrev pub add_result : Setup → Desk → Option ℕ → Request → Result
-add_result s d named q = (Answer.number (toi_for d named), admitted s (toi_for d named) q (if given named then d else reserved s d))
+add_result s d named q = (Answer.number (toi_for d named), admitted s (toi_for d named) q (when given named then d else reserved s d))
 
 -- an add of the priority
 add_shown : (p : ℕ) (j : List ℕ) (s : Setup) (d : Desk) (named : Option ℕ) (q : Request) → Unique s d → eqb q.priority p ≡ true → is_barred (step s d (Call.add named q)).0 ≡ false
@@ -480,7 +480,7 @@ add_shown p j s d named q u e h = go (add_refusal s d named q) refl h
     t = toi_for d named
 
     d' : Desk
-    d' = if given named then d else reserved s d
+    d' = when given named then d else reserved s d
 
     go : (x : Option Refusal) → add_refusal s d named q ≡ x → is_barred (unless x d (add_result s d named q)).0 ≡ false
         → unless (early_refusal s (view p j d) q) (view p j d) (Answer.number (suc (length j)), one_more s q (view p j d))
@@ -503,7 +503,7 @@ sends p r j (some h) e v = ap (λ n. eqb n p) v.0 ∙ e
 
 see_mine : (p : ℕ) (f : ℕ → ℕ) (r : ℕ) (h : Option Hand) → eqb r p ≡ true
     → see p f (record { priority = r; hand = h }) ≡ record { priority = r; hand = over (retag_held f) h }
-see_mine p f r h e = λ i. record { priority = r; hand = (if e i then over (retag_held f) h else none) }
+see_mine p f r h e = λ i. record { priority = r; hand = (when e i then over (retag_held f) h else none) }
 
 ran_shown : (p : ℕ) (j : List ℕ) (s : Setup) (now i : ℕ) (d : Desk) (x : Session) → at d.sessions i ≡ some x → Known p j d → eqb x.priority p ≡ true
     → ran s now i (view p j d) (see p (key j) x) ≡ (answer_by (key j) (ran s now i d x).0, view p j (ran s now i d x).1)
@@ -538,7 +538,7 @@ ran_shown p j s now i d x a k e = λ z. (
         (file_run_seen p f s now (fdt_queued d) d.queue h v)
 
     turn : rr ≡ see_turn p f r
-    turn = ap (λ b. file_run s x.priority now (fdt_queued d) (seen p f d.queue) (if b then over (retag_held f) x.hand else none)) e
+    turn = ap (λ b. file_run s x.priority now (fdt_queued d) (seen p f d.queue) (when b then over (retag_held f) x.hand else none)) e
         ∙ at_p x.priority (eqb-true x.priority p e) x.hand (sends p x.priority j x.hand e fits)
 
     answer : Answer.output rr.packet ≡ answer_by f (Answer.output r.packet)
@@ -563,15 +563,15 @@ ran_hidden p j s now i d x a k e = λ z. record {
       (λ w. record { priority = x.priority; hand = (both (file_run s x.priority now (fdt_queued d) d.queue x.hand).hand x.hand w) }) z;
 }
   where
-    both : (g h : Option Hand) → (if eqb x.priority p then over (retag_held (key j)) g else none) ≡ (if eqb x.priority p then over (retag_held (key j)) h else none)
+    both : (g h : Option Hand) → (when eqb x.priority p then over (retag_held (key j)) g else none) ≡ (when eqb x.priority p then over (retag_held (key j)) h else none)
     both g h = rw e
 
 -- an FDT run, as it is seen
 fdt_seen : (p : ℕ) (j : List ℕ) (d : Desk) (r : FdtTurn) → Known p j d
-    → (if r.taken then all_published (with_fdt (view p j d) r.fdt) else with_fdt (view p j d) r.fdt) ≡ view p j (if r.taken then all_published (with_fdt d r.fdt) else with_fdt d r.fdt)
+    → (when r.taken then all_published (with_fdt (view p j d) r.fdt) else with_fdt (view p j d) r.fdt) ≡ view p j (when r.taken then all_published (with_fdt d r.fdt) else with_fdt d r.fdt)
 unfolding with_fdt
 fdt_seen p j d r k = elim r.taken
-    as (λ b. (if b then all_published (with_fdt (view p j d) r.fdt) else with_fdt (view p j d) r.fdt) ≡ view p j (if b then all_published (with_fdt d r.fdt) else with_fdt d r.fdt))
+    as (λ b. (when b then all_published (with_fdt (view p j d) r.fdt) else with_fdt (view p j d) r.fdt) ≡ view p j (when b then all_published (with_fdt d r.fdt) else with_fdt d r.fdt))
     [ true ↦ published_seen p j (with_fdt d r.fdt) (record { waiting = k.waiting; serving = k.serving }) | false ↦ refl ]
 
 -- a packet with an id
@@ -582,7 +582,7 @@ FdtPacket (some k) = given k.id ≡ true
 -- FDT packets have an id, so their answers stay
 fdt_answer : (f : ℕ → ℕ) (b : Bool) (k : Option Packet) → FdtPacket k → Answer.fdt_output b k ≡ answer_by f (Answer.fdt_output b k)
 fdt_answer f b none u = refl
-fdt_answer f b (some k) u = λ i. Answer.fdt_output b (some record { id = k.id; toi = (if sym u i then k.toi else f k.toi); symbol = k.symbol })
+fdt_answer f b (some k) u = λ i. Answer.fdt_output b (some record { id = k.id; toi = (when sym u i then k.toi else f k.toi); symbol = k.symbol })
 
 fdt_run_packet : (s : Setup) (now : ℕ) (draft : Option Part) (f : Fdt) → FdtPacket (fdt_run s now draft f).packet
 unfolding fdt_sent
@@ -609,7 +609,7 @@ hidden p j s d (Call.release t) k e = go (release_refusal d t)
 hidden p j s d (Call.add named q) k e = go (add_refusal s d named q)
   where
     go : (x : Option Refusal) → view p (got_after p (Call.add named q) (unless x d (add_result s d named q)).0 j) (unless x d (add_result s d named q)).1 ≡ view p j d
-    go none = rw e (admitted_hidden p j s (toi_for d named) q (if given named then d else reserved s d) e ∙ maybe_reserved_hidden p j s d named)
+    go none = rw e (admitted_hidden p j s (toi_for d named) q (when given named then d else reserved s d) e ∙ maybe_reserved_hidden p j s d named)
     go (some n) = refl
 hidden p j s d (Call.touch t x) k e = touched_hidden p j d t x k e
 hidden p j s d (Call.ask q) k e = refl
@@ -647,10 +647,10 @@ shown p j s d (Call.publish now c) u k e h = go (publish_refusal s d.fdt c)
 shown p j s d (Call.run_fdt now draft) u k e h = go (draft_refusal s d.fdt draft) (fdt_run s now (draft_of draft) d.fdt) (fdt_run_packet s now (draft_of draft) d.fdt)
   where
     go : (x : Option Refusal) (r : FdtTurn) → FdtPacket r.packet
-        → unless x (view p j d) (Answer.fdt_output r.taken r.packet, if r.taken then all_published (with_fdt (view p j d) r.fdt) else with_fdt (view p j d) r.fdt)
+        → unless x (view p j d) (Answer.fdt_output r.taken r.packet, when r.taken then all_published (with_fdt (view p j d) r.fdt) else with_fdt (view p j d) r.fdt)
         ≡ (
-          answer_by (key j) (unless x d (Answer.fdt_output r.taken r.packet, if r.taken then all_published (with_fdt d r.fdt) else with_fdt d r.fdt)).0,
-          view p j (unless x d (Answer.fdt_output r.taken r.packet, if r.taken then all_published (with_fdt d r.fdt) else with_fdt d r.fdt)).1,
+          answer_by (key j) (unless x d (Answer.fdt_output r.taken r.packet, when r.taken then all_published (with_fdt d r.fdt) else with_fdt d r.fdt)).0,
+          view p j (unless x d (Answer.fdt_output r.taken r.packet, when r.taken then all_published (with_fdt d r.fdt) else with_fdt d r.fdt)).1,
         )
     go none r v = λ i. (fdt_answer (key j) r.taken r.packet v i, fdt_seen p j d r k i)
     go (some n) r v = refl
@@ -669,8 +669,8 @@ unfolding answers calls smooth
 answered_alone s p w j d [] u k h = refl
 answered_alone s p w j d (c ∷ l) u k h =
     (elim (about p d c) as (λ b. about p d c ≡ b
-    → (if b then answer_by (key (got_after p c (step s d c).0 j)) (step s d c).0 ∷ answers s p (got_after p c (step s d c).0 j) (step s d c).1 l else answers s p (got_after p c (step s d c).0 j) (step s d c).1 l)
-    ≡ own_run s (view p j d) (if b then call_by (key j) c ∷ calls s p (got_after p c (step s d c).0 j) (step s d c).1 l else calls s p (got_after p c (step s d c).0 j) (step s d c).1 l)) [
+    → (when b then answer_by (key (got_after p c (step s d c).0 j)) (step s d c).0 ∷ answers s p (got_after p c (step s d c).0 j) (step s d c).1 l else answers s p (got_after p c (step s d c).0 j) (step s d c).1 l)
+    ≡ own_run s (view p j d) (when b then call_by (key j) c ∷ calls s p (got_after p c (step s d c).0 j) (step s d c).1 l else calls s p (got_after p c (step s d c).0 j) (step s d c).1 l)) [
       | true ↦ λ e. (let q = shown p j s d c u k e (not-true (turned_away p c (step s d c).0) (and_left (not (turned_away p c (step s d c).0)) (smooth s p (step s d c).1 l) h)) in
           (let rest = answered_alone s p w (got_after p c (step s d c).0 j) (step s d c).1 l (unique_step s d c w u) (known_step p j s d c k) (and_right (not (turned_away p c (step s d c).0)) (smooth s p (step s d c).1 l) h) in
           λ i. (sym q i).0 ∷ (rest ∙ ap (λ (r : Result). own_run s r.1 (calls s p (got_after p c (step s d c).0 j) (step s d c).1 l)) (sym q)) i))
@@ -722,7 +722,7 @@ number_step p j s d (Call.run_fdt now draft) k e = go (draft_refusal s d.fdt dra
     r : FdtTurn
     r = fdt_run s now (draft_of draft) d.fdt
 
-    go : (x : Option Refusal) → NumberOf j (unless x d (Answer.fdt_output r.taken r.packet, if r.taken then all_published (with_fdt d r.fdt) else with_fdt d r.fdt)).0
+    go : (x : Option Refusal) → NumberOf j (unless x d (Answer.fdt_output r.taken r.packet, when r.taken then all_published (with_fdt d r.fdt) else with_fdt d r.fdt)).0
     go none = fdt_own j r.packet (fdt_run_packet s now (draft_of draft) d.fdt)
     go (some n) = tt
 number_step p j s d (Call.run_file i now) k e = go (at d.sessions i) refl e

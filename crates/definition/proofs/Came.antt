@@ -3,7 +3,7 @@ use mathlib.Core.Path.{◌≡◌, refl, sym, subst}
 use mathlib.Core.Option.{Option, none, some}
 use mathlib.Core.List.{List, [], ◌∷◌}
 use Prim.Native.Nat.{ℕ}
-use Rattle.sizes.specs.Words.{if◌then◌else◌, maybe, Each}
+use Rattle.sizes.specs.Words.{when◌then◌else◌, maybe, Each}
 use Rattle.sizes.proofs.Lists.{each_imp}
 use Rattle.lifecycle.specs.Lifecycle.{Life}
 use Rattle.lifecycle.specs.Setup.{Setup}
@@ -22,7 +22,7 @@ among_stable (a ∷ j) x o (later u) = later (among_stable j x o u)
 among_grown : (s : Setup) (d : Desk) (c : Call) (j : List Object) (o : Object) → Among j o → Among (grown s d c j) o
 among_grown s d c j o u = go (adding c)
   where
-    go : (x : Option (Option ℕ × Request)) → Among (maybe j (λ y. if accepted (step s d c).0 then made s (toi_for d y.0) y.1 ∷ j else j) x) o
+    go : (x : Option (Option ℕ × Request)) → Among (maybe j (λ y. when accepted (step s d c).0 then made s (toi_for d y.0) y.1 ∷ j else j) x) o
     go none = u
     go (some y) = either (λ l. Among l o) (accepted (step s d c).0) (made s (toi_for d y.0) y.1 ∷ j) j (later u) u
 

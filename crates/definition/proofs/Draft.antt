@@ -8,7 +8,7 @@ use native.Mathlib.Omega.{arith}
 use borrow.Author.Tests.{eqb-true}
 use lib.Dec.{eqb}
 use lib.ListN.{length}
-use Rattle.sizes.specs.Words.{if◌then◌else◌, maybe, over, given}
+use Rattle.sizes.specs.Words.{when◌then◌else◌, maybe, over, given}
 use Rattle.sizes.proofs.Tests.{and_left, none≢some}
 use Rattle.lifecycle.specs.declared.parts.Part.{Part}
 use Rattle.lifecycle.specs.Lifecycle.{may_start, started, finished}
@@ -24,7 +24,7 @@ use Rattle.definition.proofs.Rounds.{first_read}
 -- what it says of the draft, from next id n
 record Asked (draft : Option Part) (n : ℕ) (r : Next) : Type 0 where
   starts : r.taken ≡ true → over (λ (i : Instance). i.id) r.starts ≡ some n
-  moves : r.state.next_id ≡ (if r.taken then id_after n else n)
+  moves : r.state.next_id ≡ (when r.taken then id_after n else n)
   no_draft : given draft ≡ false → r.taken ≡ false
 
 module _ (s : Setup) (now : ℕ) where
@@ -42,9 +42,9 @@ module _ (s : Setup) (now : ℕ) where
       Keeps : Next → Type 0
       Keeps r = (r.taken ≡ t) × (r.state.next_id ≡ f.next_id)
 
-      go : (x : Option Instance) → Keeps (maybe stays (λ (i : Instance). if may_start (fdt_plan s) now i.life then goes i else stays) x)
+      go : (x : Option Instance) → Keeps (maybe stays (λ (i : Instance). when may_start (fdt_plan s) now i.life then goes i else stays) x)
       go none = (refl, refl)
-      go (some i) = elim (may_start (fdt_plan s) now i.life) as (λ b. Keeps (if b then goes i else stays)) [ true ↦ (refl, refl) | false ↦ (refl, refl) ]
+      go (some i) = elim (may_start (fdt_plan s) now i.life) as (λ b. Keeps (when b then goes i else stays)) [ true ↦ (refl, refl) | false ↦ (refl, refl) ]
 
   front_keeps : (f : FdtState) → (front_taken f).next_id ≡ f.next_id
   unfolding front_taken
@@ -60,11 +60,11 @@ module _ (s : Setup) (now : ℕ) where
   alone_starts c f t e = rw e
 
   module _ (draft : Option Part) (f : FdtState) where
-    republish_moves : (republished s now draft f).next_id ≡ (if takes_draft s now draft f then id_after f.next_id else f.next_id)
+    republish_moves : (republished s now draft f).next_id ≡ (when takes_draft s now draft f then id_after f.next_id else f.next_id)
     unfolding republished takes_draft queued
     republish_moves = go (needs_new s now f) draft
       where
-        go : (b : Bool) (c : Option Part) → (if b then maybe f (λ c. queued now c f) c else f).next_id ≡ (if b && given c then id_after f.next_id else f.next_id)
+        go : (b : Bool) (c : Option Part) → (when b then maybe f (λ c. queued now c f) c else f).next_id ≡ (when b && given c then id_after f.next_id else f.next_id)
         go true none = refl
         go true (some c) = refl
         go false c = refl
@@ -82,7 +82,7 @@ module _ (s : Setup) (now : ℕ) where
     taken_starts h = go draft h
       where
         go : (c : Option Part) → (needs_new s now f && given c) ≡ true
-            → over (λ (i : Instance). i.id) (start_current s now (needs_new s now f && given c) (front_taken (if needs_new s now f then maybe f (λ c. queued now c f) c else f))).starts ≡ some f.next_id
+            → over (λ (i : Instance). i.id) (start_current s now (needs_new s now f && given c) (front_taken (when needs_new s now f then maybe f (λ c. queued now c f) c else f))).starts ≡ some f.next_id
         go none e = absurd (false≢true (sym (and-false (needs_new s now f)) ∙ e))
         go (some c) e = let n = and_left (needs_new s now f) true e in rw n (alone_starts c f true (none_waits n))
 
@@ -92,11 +92,11 @@ module _ (s : Setup) (now : ℕ) where
 
     asked : Asked draft f.next_id (next_fdt s now draft f)
     unfolding next_fdt
-    asked = elim (maybe false (λ (i : Instance). i.transferring) f.current) as (λ b. Asked draft f.next_id (if b then record { taken = false; state = f; starts = none } else next)) [
+    asked = elim (maybe false (λ (i : Instance). i.transferring) f.current) as (λ b. Asked draft f.next_id (when b then record { taken = false; state = f; starts = none } else next)) [
       | true ↦ record { starts = λ e. absurd (false≢true e); moves = refl; no_draft = λ e. refl }
       | false ↦ record {
         starts = λ e. taken_starts (sym kept.0 ∙ e);
-        moves = kept.1 ∙ front_keeps (republished s now draft f) ∙ republish_moves ∙ ap (λ b. if b then id_after f.next_id else f.next_id) (sym kept.0);
+        moves = kept.1 ∙ front_keeps (republished s now draft f) ∙ republish_moves ∙ ap (λ b. when b then id_after f.next_id else f.next_id) (sym kept.0);
         no_draft = λ e. kept.0 ∙ not_taken e;
       }
     ]
@@ -112,7 +112,7 @@ module _ (s : Setup) (now : ℕ) where
 -- what a turn says of the draft, from next id n
 record Told (draft : Option Part) (n : ℕ) (r : FdtTurn) : Type 0 where
   sent : r.taken ≡ true → packet_id r.packet ≡ some n
-  moves : r.fdt.state.next_id ≡ (if r.taken then id_after n else n)
+  moves : r.fdt.state.next_id ≡ (when r.taken then id_after n else n)
   no_draft : given draft ≡ false → r.taken ≡ false
 
 module _ (s : Setup) (now : ℕ) (w : 1 ≤ s.window) (k : 1 ≤ s.sizes.e) (g : 1 ≤ s.sizes.b) (draft : Option Part) where

@@ -6,7 +6,7 @@ use mathlib.Core.List.{List, [], ◌∷◌, ◌++◌, map}
 use Prim.Native.Nat.{ℕ, ◌≤◌}
 use lib.Dec.{eqb}
 use lib.ListN.{length}
-use Rattle.sizes.specs.Words.{if◌then◌else◌, maybe, given, keep, at}
+use Rattle.sizes.specs.Words.{when◌then◌else◌, maybe, given, keep, at}
 use Rattle.sizes.specs.declared.refusal.Refusal.TheVariants as Because
 use Rattle.sizes.specs.declared.refusal.Refusal.{Refusal}
 use Rattle.lifecycle.proofs.SetupLaws.{blocks_told}
@@ -39,7 +39,7 @@ module _ (P : Object → Type 0) (stable : (x : Life) (o : Object) → P o → P
   unfolding put_back
   back_all now h q u v =
       let o = living (finished now h.object.life) h.object in
-      elim (h.listed && not (expired o.plan o.life)) as (λ t. Each P (if t then q ++ (o ∷ []) else q))
+      elim (h.listed && not (expired o.plan o.life)) as (λ t. Each P (when t then q ++ (o ∷ []) else q))
       [ true ↦ each_append P q (o ∷ []) u (stable (finished now h.object.life) h.object v, tt) | false ↦ u ]
 
   file_run_all : (s : Setup) (r now : ℕ) (b : Bool) (q : List Object) (h : Option Hand) → Each P q → InHand P h → InTurn (file_run s r now b q h)
@@ -67,7 +67,7 @@ module _ (P : Object → Type 0) (stable : (x : Life) (o : Object) → P o → P
   }
     where
       one : (h : Hand) → P h.object → P (marked_hand h).object
-      one h v = elim h.listed as (λ b. P (if b then record { object = marked h.object; listed = true; encoder = h.encoder; pace = h.pace } else h).object)
+      one h v = elim h.listed as (λ b. P (when b then record { object = marked h.object; listed = true; encoder = h.encoder; pace = h.pace } else h).object)
           [ true ↦ stable (announced h.object.life) h.object v | false ↦ v ]
 
   fdt_all : (d : Desk) (f : Fdt) → Everywhere P d → Everywhere P (with_fdt d f)
@@ -78,7 +78,7 @@ module _ (P : Object → Type 0) (stable : (x : Life) (o : Object) → P o → P
   unfolding reserved numbered
   reserved_all s d u = record { waiting = u.waiting; serving = u.serving }
 
-  maybe_all : (s : Setup) (d : Desk) (named : Option ℕ) → Everywhere P d → Everywhere P (if given named then d else reserved s d)
+  maybe_all : (s : Setup) (d : Desk) (named : Option ℕ) → Everywhere P d → Everywhere P (when given named then d else reserved s d)
   maybe_all s d none u = reserved_all s d u
   maybe_all s d (some t) u = u
 
@@ -106,8 +106,8 @@ module _ (P : Object → Type 0) (stable : (x : Life) (o : Object) → P o → P
       go (some n) = u
   everywhere_step s d (Call.add named q) k u = go (add_refusal s d named q) refl
     where
-      go : (x : Option Refusal) → add_refusal s d named q ≡ x → Everywhere P (unless x d (Answer.number (toi_for d named), admitted s (toi_for d named) q (if given named then d else reserved s d))).1
-      go none e = admitted_all s (toi_for d named) q (if given named then d else reserved s d) (k named q refl e) (maybe_all s d named u)
+      go : (x : Option Refusal) → add_refusal s d named q ≡ x → Everywhere P (unless x d (Answer.number (toi_for d named), admitted s (toi_for d named) q (when given named then d else reserved s d))).1
+      go none e = admitted_all s (toi_for d named) q (when given named then d else reserved s d) (k named q refl e) (maybe_all s d named u)
       go (some n) e = u
   everywhere_step s d (Call.touch t x) k u = record {
     waiting = each_touched (touched_waiting t x) (touched_kept t x) P stable d.queue u.waiting;
@@ -122,8 +122,8 @@ module _ (P : Object → Type 0) (stable : (x : Life) (o : Object) → P o → P
       go (some n) = u
   everywhere_step s d (Call.run_fdt now draft) k u = go (draft_refusal s d.fdt draft) (fdt_run s now (draft_of draft) d.fdt)
     where
-      go : (x : Option Refusal) (r : FdtTurn) → Everywhere P (unless x d (Answer.fdt_output r.taken r.packet, if r.taken then all_published (with_fdt d r.fdt) else with_fdt d r.fdt)).1
-      go none r = elim r.taken as (λ t. Everywhere P (if t then all_published (with_fdt d r.fdt) else with_fdt d r.fdt))
+      go : (x : Option Refusal) (r : FdtTurn) → Everywhere P (unless x d (Answer.fdt_output r.taken r.packet, when r.taken then all_published (with_fdt d r.fdt) else with_fdt d r.fdt)).1
+      go none r = elim r.taken as (λ t. Everywhere P (when t then all_published (with_fdt d r.fdt) else with_fdt d r.fdt))
           [ true ↦ marked_all (with_fdt d r.fdt) (fdt_all d r.fdt u) | false ↦ fdt_all d r.fdt u ]
       go (some n) r = u
   everywhere_step s d (Call.run_file i now) k u = go (at d.sessions i) refl

@@ -8,7 +8,7 @@ use native.Mathlib.Omega.{arith}
 use lib.Dec.{eqb, ltb, leb}
 use borrow.Author.Tests.{leb-false, ltb-false, le-ltb, eqb-false, ne_eqb}
 use lib.ListN.{length, length-append}
-use Rattle.sizes.specs.Words.{if◌then◌else◌, maybe, given, collect, any, at, first_of, one_if, Each}
+use Rattle.sizes.specs.Words.{when◌then◌else◌, maybe, given, collect, any, at, first_of, one_if, Each}
 use Rattle.sizes.specs.declared.refusal.Refusal.TheVariants as Because
 use Rattle.sizes.specs.Limits.{waiting_fdts}
 use Rattle.sizes.proofs.Tests.{or_left, or_right, Tested, pass, fail, tested}
@@ -102,7 +102,7 @@ rehand (some i) h k a b (sending t d e) = sending t (a ∙ d) (b ∙ e)
 -- the sum stays within b with what the draft may still bring
 module _ (s : Setup) (now : ℕ) (w : Part → ℕ) (b : ℕ) where
   abbrev due : Option Part → Bool → ℕ
-  due draft t = if t then 0 else maybe 0 w draft
+  due draft t = when t then 0 else maybe 0 w draft
 
   record Going (draft : Option Part) (t : Bool) (f : Fdt) : Type 0 where
     few : length f.state.waiting ≤ waiting_fdts
@@ -119,7 +119,7 @@ module _ (s : Setup) (now : ℕ) (w : Part → ℕ) (b : ℕ) where
     weight : total w (fdt_parts g) + due draft t' ≤ total w (fdt_parts f) + due draft t
 
   asked : (draft : Option Part) (t n : Bool) (f : FdtState)
-      → Asked draft t (t || (n && given (if t then none else draft))) f (if n then maybe f (λ c. queued now c f) (if t then none else draft) else f)
+      → Asked draft t (t || (n && given (when t then none else draft))) f (when n then maybe f (λ c. queued now c f) (when t then none else draft) else f)
   asked draft true true f = record { longer = omega arith; idle = λ u. u; same = refl; weight = omega arith }
   asked draft true false f = record { longer = omega arith; idle = λ u. u; same = refl; weight = omega arith }
   asked draft false false f = record { longer = omega arith; idle = λ u. u; same = refl; weight = omega arith }
@@ -187,20 +187,20 @@ module _ (s : Setup) (now : ℕ) (w : Part → ℕ) (b : ℕ) where
       }
 
       go : (y : Option Instance) → f.current ≡ y
-          → Held (maybe (record { taken = x; state = f; starts = none }) (λ (i : Instance). if may_start (fdt_plan s) now i.life then record { taken = x; state = with_current f (transfer i); starts = some (transfer i) } else record { taken = x; state = f; starts = none }) y)
+          → Held (maybe (record { taken = x; state = f; starts = none }) (λ (i : Instance). when may_start (fdt_plan s) now i.life then record { taken = x; state = with_current f (transfer i); starts = some (transfer i) } else record { taken = x; state = f; starts = none }) y)
       go none e = stays
       go (some i) e = either Held (may_start (fdt_plan s) now i.life) _ _ (starts i e) stays
 
   -- asking for the next FDT
   abbrev offered : Option Part → Bool → Option Part
-  offered draft t = if t then none else draft
+  offered draft t = when t then none else draft
 
   start_taken : (x : Bool) (f : FdtState) → (start_current s now x f).taken ≡ x
   unfolding start_current
   start_taken x f = go f.current
     where
       go : (y : Option Instance)
-          → (maybe {B = Next} (record { taken = x; state = f; starts = none }) (λ (i : Instance). if may_start (fdt_plan s) now i.life then record { taken = x; state = with_current f (transfer i); starts = some (transfer i) } else record { taken = x; state = f; starts = none }) y).taken ≡ x
+          → (maybe {B = Next} (record { taken = x; state = f; starts = none }) (λ (i : Instance). when may_start (fdt_plan s) now i.life then record { taken = x; state = with_current f (transfer i); starts = some (transfer i) } else record { taken = x; state = f; starts = none }) y).taken ≡ x
       go none = refl
       go (some i) = either (λ (n : Next). n.taken ≡ x) (may_start (fdt_plan s) now i.life) _ _ refl refl
 
@@ -323,7 +323,7 @@ draft_fits : (s : Setup) (f : Fdt) (draft : Option Part) → draft_refusal s f d
 unfolding draft_refusal draft_of
 draft_fits s f none e = tt
 draft_fits s f (some c) e = (elim (eqb c.size 0)
-    as (λ t. eqb c.size 0 ≡ t → maybe none (λ c. first_of ((Because.Sizes, bad_blocks s.sizes c.size) ∷ (Because.Part, bad_fdt_part s f.state c) ∷ [])) (if t then none else some c) ≡ none → IfGiven (Fits s f) (if t then none else some c)) [
+    as (λ t. eqb c.size 0 ≡ t → maybe none (λ c. first_of ((Because.Sizes, bad_blocks s.sizes c.size) ∷ (Because.Part, bad_fdt_part s f.state c) ∷ [])) (when t then none else some c) ≡ none → IfGiven (Fits s f) (when t then none else some c)) [
       | true ↦ λ z e. tt
       | false ↦ λ z e. (let r = first_none Because.Sizes (bad_blocks s.sizes c.size) ((Because.Part, bad_fdt_part s f.state c) ∷ []) e in
           fits_told s f c r.0 (first_none Because.Part (bad_fdt_part s f.state c) [] r.1).0 z)

@@ -4,7 +4,7 @@ use mathlib.Core.Bool.{Bool, true, false, true≢false}
 use mathlib.Core.Option.{Option, none, some}
 use mathlib.Core.List.{List}
 use Prim.Native.Nat.{ℕ, suc, ◌≤◌}
-use Rattle.sizes.specs.Words.{if◌then◌else◌, find, drop_first, Each}
+use Rattle.sizes.specs.Words.{when◌then◌else◌, find, drop_first, Each}
 use Rattle.sizes.proofs.Lists.{each_find, each_at}
 use Rattle.lifecycle.specs.Lifecycle.{too_early}
 use Rattle.lifecycle.specs.Setup.{Setup}
@@ -45,7 +45,7 @@ module _ (s : Setup) (p now : ℕ) (b : Bool) (w : 1 ≤ s.window) where
   sized_again q h u v = go b (too_early now h.pace) (reads s h).0
     where
       go : (b early : Bool) (y : Option Symbol)
-          → SizedAgain (if b then over (idle q (some h)) else if early then over (idle q (some h)) else elim y [ none ↦ again (put_back now h q) | some y ↦ over (sent q h (reads s h).1 y) ])
+          → SizedAgain (when b then over (idle q (some h)) else when early then over (idle q (some h)) else elim y [ none ↦ again (put_back now h q) | some y ↦ over (sent q h (reads s h).1 y) ])
       go true early y = tt
       go false true y = tt
       go false false none = back_all Sized (λ x o v. v) now h q u v

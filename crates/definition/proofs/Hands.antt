@@ -8,7 +8,7 @@ use native.Mathlib.Omega.{arith}
 use lib.Dec.{eqb}
 use borrow.Author.Tests.{eqb-true}
 use lib.ListN.{length, length-append, length-set}
-use Rattle.sizes.specs.Words.{if◌then◌else◌, maybe, given, at, cut, Each}
+use Rattle.sizes.specs.Words.{when◌then◌else◌, maybe, given, at, cut, Each}
 use Rattle.sizes.specs.declared.refusal.Refusal.TheVariants as Because
 use Rattle.sizes.specs.Partition.{blocks_of}
 use Rattle.sizes.specs.declared.partition.Sizes.{Sizes}
@@ -62,7 +62,7 @@ visit_window (suc k) w c z force x h =
     let i = wrapped y in
     let g = fill_window w p x h in
     let again = visit_window k w c z force (without y i) (let a = length_cut y.window i in omega arith) in
-    elim (at y.window i) as (λ (o : Option Open). length (maybe (emptied c y) (λ o. if drained p o then visit k w c z force (without y i) else (some (symbol_of c z force o (advanced y i o)), advanced y i o)) o).1.window ≤ w) [
+    elim (at y.window i) as (λ (o : Option Open). length (maybe (emptied c y) (λ o. when drained p o then visit k w c z force (without y i) else (some (symbol_of c z force o (advanced y i o)), advanced y i o)) o).1.window ≤ w) [
       | none ↦ emptied_window w c y g
       | some o ↦ either (λ (r : Option Symbol × Encoder). length r.1.window ≤ w) (drained p o) (visit k w c z force (without y i)) _ again (advanced_window w y i o g)
     ]

@@ -7,7 +7,7 @@ use Prim.Native.Nat.{ℕ}
 use lib.Dec.{eqb}
 use borrow.Author.Tests.{eqb-true, eq-eqb}
 use lib.ListN.{length}
-use Rattle.sizes.specs.Words.{if◌then◌else◌, maybe, given, keep, at, has, drop_first}
+use Rattle.sizes.specs.Words.{when◌then◌else◌, maybe, given, keep, at, has, drop_first}
 use Rattle.sizes.specs.declared.refusal.Refusal.TheVariants as Because
 use Rattle.sizes.specs.declared.refusal.Refusal.{Refusal}
 use Rattle.lifecycle.specs.Lifecycle.{expired, finished, may_start}
@@ -52,7 +52,7 @@ module _ (p : ℕ) (j : List ℕ) where
   unfolding put_back
   back_known now h q u v =
       let o = living (finished now h.object.life) h.object in
-      elim (h.listed && not (expired o.plan o.life)) as (λ t. Each (Noted p j) (if t then q ++ (o ∷ []) else q))
+      elim (h.listed && not (expired o.plan o.life)) as (λ t. Each (Noted p j) (when t then q ++ (o ∷ []) else q))
       [ true ↦ each_append (Noted p j) q (o ∷ []) u (v, tt) | false ↦ u ]
 
   pub file_run_known : (r : ℕ) (s : Setup) (now : ℕ) (b : Bool) (q : List Object) (h : Option Hand) → Each (Noted p j) q → HeldFits p j r h
@@ -72,14 +72,14 @@ module _ (p : ℕ) (f : ℕ → ℕ) where
   unfolding put_back
   back_other now h q e =
       let o = living (finished now h.object.life) h.object in
-      elim (h.listed && not (expired o.plan o.life)) as (λ t. seen p f (if t then q ++ (o ∷ []) else q) ≡ seen p f q)
+      elim (h.listed && not (expired o.plan o.life)) as (λ t. seen p f (when t then q ++ (o ∷ []) else q) ≡ seen p f q)
       [ true ↦ seen_append p f q (o ∷ []) ∙ ap (λ l. seen p f q ++ l) (seen_other p f o e) ∙ append-nil (seen p f q) | false ↦ refl ]
 
   seen_dropped : (ok : Object → Bool) (q : List Object) → ((o : Object) → ok o ≡ true → mine p o ≡ false) → seen p f (drop_first ok q) ≡ seen p f q
   seen_dropped ok [] u = refl
-  seen_dropped ok (o ∷ q) u = (elim (ok o) as (λ b. ok o ≡ b → seen p f (if b then q else o ∷ drop_first ok q) ≡ (if mine p o then retag f o ∷ seen p f q else seen p f q)) [
+  seen_dropped ok (o ∷ q) u = (elim (ok o) as (λ b. ok o ≡ b → seen p f (when b then q else o ∷ drop_first ok q) ≡ (when mine p o then retag f o ∷ seen p f q else seen p f q)) [
     | true ↦ λ e. rw (u o e)
-    | false ↦ λ e. elim (mine p o) as (λ t. (if t then retag f o ∷ seen p f (drop_first ok q) else seen p f (drop_first ok q)) ≡ (if t then retag f o ∷ seen p f q else seen p f q))
+    | false ↦ λ e. elim (mine p o) as (λ t. (when t then retag f o ∷ seen p f (drop_first ok q) else seen p f (drop_first ok q)) ≡ (when t then retag f o ∷ seen p f q else seen p f q))
         [ true ↦ ap (λ l. retag f o ∷ l) (seen_dropped ok q u) | false ↦ seen_dropped ok q u ]
   ]) refl
 
@@ -117,8 +117,8 @@ in_hand_known p j g k x u = go x.hand u
 
 pub marked_held_same : (h : Hand) → ((marked_hand h).object.priority ≡ h.object.priority) × ((marked_hand h).object.toi ≡ h.object.toi)
 unfolding marked_hand marked
-marked_held_same h = elim h.listed as (λ t. (((if t then record { object = marked h.object; listed = true; encoder = h.encoder; pace = h.pace } else h).object.priority ≡ h.object.priority)
-    × ((if t then record { object = marked h.object; listed = true; encoder = h.encoder; pace = h.pace } else h).object.toi ≡ h.object.toi)))
+marked_held_same h = elim h.listed as (λ t. (((when t then record { object = marked h.object; listed = true; encoder = h.encoder; pace = h.pace } else h).object.priority ≡ h.object.priority)
+    × ((when t then record { object = marked h.object; listed = true; encoder = h.encoder; pace = h.pace } else h).object.toi ≡ h.object.toi)))
     [ true ↦ (refl, refl) | false ↦ (refl, refl) ]
 
 touched_same : (t : ℕ) (x : Touch) (h : Hand) → ((touched_hand t x h).object.priority ≡ h.object.priority) × ((touched_hand t x h).object.toi ≡ h.object.toi)
@@ -157,7 +157,7 @@ admitted_known : (p : ℕ) (j : List ℕ) (s : Setup) (t : ℕ) (q : Request) (d
 unfolding admitted made unloosed
 admitted_known p j s t q d k u = record { waiting = each_append (Noted p j) d.queue (made s t q ∷ []) u.waiting (k, tt); serving = u.serving }
 
-reserved_known : (p : ℕ) (j : List ℕ) (s : Setup) (d : Desk) (named : Option ℕ) → Known p j d → Known p j (if given named then d else reserved s d)
+reserved_known : (p : ℕ) (j : List ℕ) (s : Setup) (d : Desk) (named : Option ℕ) → Known p j d → Known p j (when given named then d else reserved s d)
 unfolding reserved numbered
 reserved_known p j s d none u = record { waiting = u.waiting; serving = u.serving }
 reserved_known p j s d (some t) u = u
@@ -166,10 +166,10 @@ has_first : (t : ℕ) (j : List ℕ) → has t (t ∷ j) ≡ true
 has_first t j = rw (eq-eqb t t refl)
 
 pub add_known : (p : ℕ) (j : List ℕ) (s : Setup) (t : ℕ) (q : Request) (d : Desk) (named : Option ℕ) → Known p j d
-    → Known p (got_after p (Call.add named q) (Answer.number t) j) (admitted s t q (if given named then d else reserved s d))
-add_known p j s t q d named u = (elim (eqb q.priority p) as (λ b. eqb q.priority p ≡ b → Known p (if b then t ∷ j else j) (admitted s t q (if given named then d else reserved s d))) [
-  | true ↦ λ e. admitted_known p (t ∷ j) s t q (if given named then d else reserved s d) (λ k. has_first t j) (more_known p t j (if given named then d else reserved s d) (reserved_known p j s d named u))
-  | false ↦ λ e. admitted_known p j s t q (if given named then d else reserved s d) (λ k. absurd (true≢false (sym k ∙ e))) (reserved_known p j s d named u)
+    → Known p (got_after p (Call.add named q) (Answer.number t) j) (admitted s t q (when given named then d else reserved s d))
+add_known p j s t q d named u = (elim (eqb q.priority p) as (λ b. eqb q.priority p ≡ b → Known p (when b then t ∷ j else j) (admitted s t q (when given named then d else reserved s d))) [
+  | true ↦ λ e. admitted_known p (t ∷ j) s t q (when given named then d else reserved s d) (λ k. has_first t j) (more_known p t j (when given named then d else reserved s d) (reserved_known p j s d named u))
+  | false ↦ λ e. admitted_known p j s t q (when given named then d else reserved s d) (λ k. absurd (true≢false (sym k ∙ e))) (reserved_known p j s d named u)
 ]) refl
 
 ran_known : (p : ℕ) (j : List ℕ) (s : Setup) (now i : ℕ) (d : Desk) (x : Session) → at d.sessions i ≡ some x → Known p j d → Known p j (ran s now i d x).1
@@ -193,8 +193,8 @@ known_step p j s d (Call.release t) u = go (release_refusal d t)
     go (some n) = u
 known_step p j s d (Call.add named q) u = go (add_refusal s d named q)
   where
-    go : (x : Option Refusal) → Known p (got_after p (Call.add named q) (unless x d (Answer.number (toi_for d named), admitted s (toi_for d named) q (if given named then d else reserved s d))).0 j)
-        (unless x d (Answer.number (toi_for d named), admitted s (toi_for d named) q (if given named then d else reserved s d))).1
+    go : (x : Option Refusal) → Known p (got_after p (Call.add named q) (unless x d (Answer.number (toi_for d named), admitted s (toi_for d named) q (when given named then d else reserved s d))).0 j)
+        (unless x d (Answer.number (toi_for d named), admitted s (toi_for d named) q (when given named then d else reserved s d))).1
     go none = add_known p j s (toi_for d named) q d named u
     go (some n) = u
 known_step p j s d (Call.touch t x) u = record {
@@ -210,8 +210,8 @@ known_step p j s d (Call.publish now c) u = go (publish_refusal s d.fdt c)
     go (some n) = u
 known_step p j s d (Call.run_fdt now draft) u = go (draft_refusal s d.fdt draft) (fdt_run s now (draft_of draft) d.fdt)
   where
-    go : (x : Option Refusal) (r : FdtTurn) → Known p j (unless x d (Answer.fdt_output r.taken r.packet, if r.taken then all_published (with_fdt d r.fdt) else with_fdt d r.fdt)).1
-    go none r = elim r.taken as (λ t. Known p j (if t then all_published (with_fdt d r.fdt) else with_fdt d r.fdt))
+    go : (x : Option Refusal) (r : FdtTurn) → Known p j (unless x d (Answer.fdt_output r.taken r.packet, when r.taken then all_published (with_fdt d r.fdt) else with_fdt d r.fdt)).1
+    go none r = elim r.taken as (λ t. Known p j (when t then all_published (with_fdt d r.fdt) else with_fdt d r.fdt))
         [ true ↦ published_known p j (with_fdt d r.fdt) (with_fdt_known p j d r.fdt u) | false ↦ with_fdt_known p j d r.fdt u ]
     go (some n) r = u
 known_step p j s d (Call.run_file i now) u = go (at d.sessions i) refl

@@ -8,7 +8,7 @@ use native.Mathlib.Omega.{arith}
 use lib.Dec.{eqb, leb}
 use borrow.Author.Tests.{not-false, eqb-true, eq-eqb, leb-false}
 use lib.ListN.{length}
-use Rattle.sizes.specs.Words.{if◌then◌else◌, maybe, given, keep, at, has, times, one_if}
+use Rattle.sizes.specs.Words.{when◌then◌else◌, maybe, given, keep, at, has, times, one_if}
 use Rattle.sizes.specs.declared.refusal.Refusal.TheVariants as Because
 use Rattle.sizes.specs.Limits.{toi_entries, object_slots}
 use Rattle.sizes.specs.Toi.{Toi, first_toi, next_toi}
@@ -32,7 +32,7 @@ tois q = map (λ (o : Object). o.toi) q
 
 pub times_without : (t : ℕ) (l : List ℕ) → times t (keep (λ u. not (eqb u t)) l) ≡ 0
 times_without t [] = refl
-times_without t (a ∷ l) = (elim (eqb a t) as (λ b. eqb a t ≡ b → times t (if not b then a ∷ keep (λ u. not (eqb u t)) l else keep (λ u. not (eqb u t)) l) ≡ 0)
+times_without t (a ∷ l) = (elim (eqb a t) as (λ b. eqb a t ≡ b → times t (when not b then a ∷ keep (λ u. not (eqb u t)) l else keep (λ u. not (eqb u t)) l) ≡ 0)
     [ true ↦ λ e. times_without t l | false ↦ λ e. (let h = times_without t l in let z = ap one_if e in omega arith) ]) refl
 
 -- ---- what an add that is not refused knows
@@ -82,7 +82,7 @@ unloosed_total : (v : ℕ → ℕ) (t : ℕ) (l : List ℕ) → has t l ≡ true
 unfolding unloosed
 unloosed_total v t [] e = absurd (false≢true e)
 unloosed_total v t (a ∷ l) e = (elim (eqb a t)
-    as (λ b. eqb a t ≡ b → (b || has t l) ≡ true → total v (if not b then a ∷ keep (λ u. not (eqb u t)) l else keep (λ u. not (eqb u t)) l) + v t ≤ v a + total v l) [
+    as (λ b. eqb a t ≡ b → (b || has t l) ≡ true → total v (when not b then a ∷ keep (λ u. not (eqb u t)) l else keep (λ u. not (eqb u t)) l) + v t ≤ v a + total v l) [
       | true ↦ λ z e. (let h = total_keep v (λ u. not (eqb u t)) l in let y = ap v (eqb-true a t z) in omega arith)
       | false ↦ λ z e. (let h = unloosed_total v t l e in omega arith)
     ]) refl e

@@ -8,7 +8,7 @@ use native.Mathlib.Omega.{arith}
 use lib.Dec.{eqb, leb}
 use borrow.Author.Tests.{eqb-true, eqb-false, eq-eqb, ne_eqb, not-true, leb-false, lt-leb}
 use lib.ListN.{length, length-append}
-use Rattle.sizes.specs.Words.{if◌then◌else◌, maybe, keep, at, has, Each, times, one_if}
+use Rattle.sizes.specs.Words.{when◌then◌else◌, maybe, keep, at, has, Each, times, one_if}
 use Rattle.sizes.specs.declared.refusal.Refusal.TheVariants as Because
 use Rattle.sizes.specs.declared.refusal.Refusal.{Refusal}
 use Rattle.lifecycle.specs.Setup.{Setup, sound}
@@ -39,37 +39,37 @@ less t l = keep (λ u. not (eqb u t)) l
 
 keep_cong : (f g : ℕ → Bool) (l : List ℕ) → ((t : ℕ) → f t ≡ g t) → keep f l ≡ keep g l
 keep_cong f g [] h = refl
-keep_cong f g (a ∷ l) h = rw (h a) (elim (g a) as (λ b. (if b then a ∷ keep f l else keep f l) ≡ (if b then a ∷ keep g l else keep g l))
+keep_cong f g (a ∷ l) h = rw (h a) (elim (g a) as (λ b. (when b then a ∷ keep f l else keep f l) ≡ (when b then a ∷ keep g l else keep g l))
     [ true ↦ ap (λ r. a ∷ r) (keep_cong f g l h) | false ↦ keep_cong f g l h ])
 
 less_none : (t : ℕ) (l : List ℕ) → has t l ≡ false → less t l ≡ l
 less_none t [] h = refl
-less_none t (a ∷ l) h = (elim (eqb a t) as (λ b. (b || has t l) ≡ false → (if not b then a ∷ less t l else less t l) ≡ a ∷ l)
+less_none t (a ∷ l) h = (elim (eqb a t) as (λ b. (b || has t l) ≡ false → (when not b then a ∷ less t l else less t l) ≡ a ∷ l)
     [ true ↦ λ h. absurd (true≢false h) | false ↦ λ h. ap (λ r. a ∷ r) (less_none t l h) ]) h
 
 -- a number that is left out, before or after another choice
-keep_ended : (f : ℕ → Bool) (u : ℕ) (l : List ℕ) → keep f (less u l) ≡ keep (λ t. if eqb u t then false else f t) l
+keep_ended : (f : ℕ → Bool) (u : ℕ) (l : List ℕ) → keep f (less u l) ≡ keep (λ t. when eqb u t then false else f t) l
 keep_ended f u [] = refl
 keep_ended f u (a ∷ l) = rw (eqb_sym u a) (elim (eqb a u)
-    as (λ b. keep f (if not b then a ∷ less u l else less u l) ≡ (if (if b then false else f a) then a ∷ keep (λ t. if eqb u t then false else f t) l else keep (λ t. if eqb u t then false else f t) l)) [
+    as (λ b. keep f (when not b then a ∷ less u l else less u l) ≡ (when (when b then false else f a) then a ∷ keep (λ t. when eqb u t then false else f t) l else keep (λ t. when eqb u t then false else f t) l)) [
       | true ↦ keep_ended f u l
-      | false ↦ elim (f a) as (λ c. (if c then a ∷ keep f (less u l) else keep f (less u l)) ≡ (if c then a ∷ keep (λ t. if eqb u t then false else f t) l else keep (λ t. if eqb u t then false else f t) l))
+      | false ↦ elim (f a) as (λ c. (when c then a ∷ keep f (less u l) else keep f (less u l)) ≡ (when c then a ∷ keep (λ t. when eqb u t then false else f t) l else keep (λ t. when eqb u t then false else f t) l))
           [ true ↦ ap (λ r. a ∷ r) (keep_ended f u l) | false ↦ keep_ended f u l ]
     ])
 
-keep_claimed : (f : ℕ → Bool) (u : ℕ) (l : List ℕ) → keep f (less u l) ≡ less u (keep (λ t. if eqb u t then true else f t) l)
+keep_claimed : (f : ℕ → Bool) (u : ℕ) (l : List ℕ) → keep f (less u l) ≡ less u (keep (λ t. when eqb u t then true else f t) l)
 keep_claimed f u [] = refl
 keep_claimed f u (a ∷ l) = rw (eqb_sym u a) ((elim (eqb a u)
-    as (λ b. eqb a u ≡ b → keep f (if not b then a ∷ less u l else less u l) ≡ less u (if (if b then true else f a) then a ∷ keep (λ t. if eqb u t then true else f t) l else keep (λ t. if eqb u t then true else f t) l)) [
+    as (λ b. eqb a u ≡ b → keep f (when not b then a ∷ less u l else less u l) ≡ less u (when (when b then true else f a) then a ∷ keep (λ t. when eqb u t then true else f t) l else keep (λ t. when eqb u t then true else f t) l)) [
       | true ↦ λ e. rw e (keep_claimed f u l)
-      | false ↦ λ e. elim (f a) as (λ c. (if c then a ∷ keep f (less u l) else keep f (less u l)) ≡ less u (if c then a ∷ keep (λ t. if eqb u t then true else f t) l else keep (λ t. if eqb u t then true else f t) l))
+      | false ↦ λ e. elim (f a) as (λ c. (when c then a ∷ keep f (less u l) else keep f (less u l)) ≡ less u (when c then a ∷ keep (λ t. when eqb u t then true else f t) l else keep (λ t. when eqb u t then true else f t) l))
           [ true ↦ rw e (ap (λ r. a ∷ r) (keep_claimed f u l)) | false ↦ keep_claimed f u l ]
     ]) refl)
 
 -- one more at the end
 keep_append : (f : ℕ → Bool) (a b : List ℕ) → keep f (a ++ b) ≡ keep f a ++ keep f b
 keep_append f [] b = refl
-keep_append f (x ∷ a) b = elim (f x) as (λ c. (if c then x ∷ keep f (a ++ b) else keep f (a ++ b)) ≡ (if c then x ∷ keep f a else keep f a) ++ keep f b)
+keep_append f (x ∷ a) b = elim (f x) as (λ c. (when c then x ∷ keep f (a ++ b) else keep f (a ++ b)) ≡ (when c then x ∷ keep f a else keep f a) ++ keep f b)
     [ true ↦ ap (λ r. x ∷ r) (keep_append f a b) | false ↦ keep_append f a b ]
 
 keep_last : (f : ℕ → Bool) (l : List ℕ) (a : ℕ) → f a ≡ true → keep f (l ++ (a ∷ [])) ≡ keep f l ++ (a ∷ [])
@@ -85,7 +85,7 @@ has_not_last t (x ∷ l) a h = (elim (eqb x t) as (λ b. (b || has t (l ++ (a �
 
 keep_length : (f : ℕ → Bool) (l : List ℕ) → length (keep f l) ≤ length l
 keep_length f [] = omega arith
-keep_length f (a ∷ l) = elim (f a) as (λ b. length (if b then a ∷ keep f l else keep f l) ≤ suc (length l))
+keep_length f (a ∷ l) = elim (f a) as (λ b. length (when b then a ∷ keep f l else keep f l) ≤ suc (length l))
     [ true ↦ (let h = keep_length f l in omega arith) | false ↦ (let h = keep_length f l in omega arith) ]
 
 map_length : (f : ℕ → ℕ) (l : List ℕ) → length (map f l) ≡ length l
@@ -101,20 +101,20 @@ has_map f t (a ∷ l) h = (elim (eqb a t) as (λ b. eqb a t ≡ b → (b || has 
 
 has_keep : (f : ℕ → Bool) (t : ℕ) (l : List ℕ) → f t ≡ true → has t l ≡ true → has t (keep f l) ≡ true
 has_keep f t [] k h = h
-has_keep f t (a ∷ l) k h = (elim (eqb a t) as (λ b. eqb a t ≡ b → (b || has t l) ≡ true → has t (if f a then a ∷ keep f l else keep f l) ≡ true) [
+has_keep f t (a ∷ l) k h = (elim (eqb a t) as (λ b. eqb a t ≡ b → (b || has t l) ≡ true → has t (when f a then a ∷ keep f l else keep f l) ≡ true) [
   | true ↦ λ e h. rw (ap f (eqb-true a t e) ∙ k) (rw e)
-  | false ↦ λ e h. elim (f a) as (λ c. has t (if c then a ∷ keep f l else keep f l) ≡ true) [ true ↦ rw e (has_keep f t l k h) | false ↦ has_keep f t l k h ]
+  | false ↦ λ e h. elim (f a) as (λ c. has t (when c then a ∷ keep f l else keep f l) ≡ true) [ true ↦ rw e (has_keep f t l k h) | false ↦ has_keep f t l k h ]
 ]) refl h
 
 -- what is kept was there
 kept_has : (f : ℕ → Bool) (t : ℕ) (l : List ℕ) → has t l ≡ false → has t (keep f l) ≡ false
 kept_has f t [] h = refl
-kept_has f t (a ∷ l) h = elim (f a) as (λ b. has t (if b then a ∷ keep f l else keep f l) ≡ false)
+kept_has f t (a ∷ l) h = elim (f a) as (λ b. has t (when b then a ∷ keep f l else keep f l) ≡ false)
     [ true ↦ rw (or_left (eqb a t) (has t l) h) (kept_has f t l (or_right (eqb a t) (has t l) h)) | false ↦ kept_has f t l (or_right (eqb a t) (has t l) h) ]
 
 less_has : (t u : ℕ) (l : List ℕ) → (eqb t u ≡ false) → has u (less t l) ≡ false → has u l ≡ false
 less_has t u [] e h = h
-less_has t u (a ∷ l) e h = (elim (eqb a t) as (λ b. eqb a t ≡ b → has u (if not b then a ∷ less t l else less t l) ≡ false → (eqb a u || has u l) ≡ false) [
+less_has t u (a ∷ l) e h = (elim (eqb a t) as (λ b. eqb a t ≡ b → has u (when not b then a ∷ less t l else less t l) ≡ false → (eqb a u || has u l) ≡ false) [
   | true ↦ λ k h. rw (ap (λ n. eqb n u) (eqb-true a t k) ∙ e) (less_has t u l e h)
   | false ↦ λ k h. rw (or_left (eqb a u) (has u (less t l)) h) (less_has t u l e (or_right (eqb a u) (has u (less t l)) h))
 ]) refl h
@@ -138,7 +138,7 @@ apart_once f t (v ∷ l) k h = (elim (eqb v t) as (λ b. eqb v t ≡ b → (b ||
 
 less_map : (f : ℕ → ℕ) (t : ℕ) (l : List ℕ) → Each (λ v. eqb (f v) (f t) ≡ eqb v t) l → less (f t) (map f l) ≡ map f (less t l)
 less_map f t [] u = refl
-less_map f t (v ∷ l) u = rw u.0 (elim (eqb v t) as (λ b. (if not b then f v ∷ less (f t) (map f l) else less (f t) (map f l)) ≡ map f (if not b then v ∷ less t l else less t l))
+less_map f t (v ∷ l) u = rw u.0 (elim (eqb v t) as (λ b. (when not b then f v ∷ less (f t) (map f l) else less (f t) (map f l)) ≡ map f (when not b then v ∷ less t l else less t l))
     [ true ↦ less_map f t l u.1 | false ↦ ap (λ r. f v ∷ r) (less_map f t l u.1) ])
 
 -- one more tie does not show at the others
@@ -204,10 +204,10 @@ quieted s p d (Call.run_fdt now draft) e = record {
 }
   where
     result : FdtTurn → Result
-    result r = (Answer.fdt_output r.taken r.packet, if r.taken then all_published (with_fdt d r.fdt) else with_fdt d r.fdt)
+    result r = (Answer.fdt_output r.taken r.packet, when r.taken then all_published (with_fdt d r.fdt) else with_fdt d r.fdt)
 
     go : (x : Option Refusal) (r : FdtTurn) → (unless x d (result r)).1.loose ≡ d.loose
-    go none r = elim r.taken as (λ b. (if b then all_published (with_fdt d r.fdt) else with_fdt d r.fdt).loose ≡ d.loose) [ true ↦ refl | false ↦ refl ]
+    go none r = elim r.taken as (λ b. (when b then all_published (with_fdt d r.fdt) else with_fdt d r.fdt).loose ≡ d.loose) [ true ↦ refl | false ↦ refl ]
     go (some n) r = refl
 
     to : (x : Option Refusal) (r : FdtTurn) (a : Answer) (m : List (ℕ × ℕ)) → tie (unless x d (result r)).0 a m ≡ m
@@ -238,14 +238,14 @@ claimed_quiet : (s : Setup) (p : ℕ) (d : Desk) (c : Call) (l : List Call) → 
 unfolding claims
 claimed_quiet s p d c l k =
     ap (keep (λ t. claims s p t (step s d c).1 l)) k.same_loose
-    ∙ keep_cong (λ t. claims s p t (step s d c).1 l) (λ t. if ends t c (step s d c).0 then adds p c else claims s p t (step s d c).1 l) d.loose (λ t. rw (k.no_end t))
+    ∙ keep_cong (λ t. claims s p t (step s d c).1 l) (λ t. when ends t c (step s d c).0 then adds p c else claims s p t (step s d c).1 l) d.loose (λ t. rw (k.no_end t))
 
 -- a result's claimed reservations, and those that were claimed before the call
 abbrev Then : Setup → ℕ → List Call → Result → List ℕ
 Then s p l r = keep (λ t. claims s p t r.1 l) r.1.loose
 
 abbrev Before : Setup → ℕ → Desk → Call → List Call → Result → List ℕ
-Before s p d c l r = keep (λ t. if ends t c r.0 then adds p c else claims s p t r.1 l) d.loose
+Before s p d c l r = keep (λ t. when ends t c r.0 then adds p c else claims s p t r.1 l) d.loose
 
 next_not_loose : (s : Setup) (d : Desk) → Unique s d → has d.next d.loose ≡ false
 unfolding numbers
@@ -328,7 +328,7 @@ linked_more : (t t' : ℕ) (m : List (ℕ × ℕ)) (i j C C' : List ℕ) → len
     → (u : ℕ) → has u (t ∷ j) ≡ true → has u C' ≡ false → look ((t, t') ∷ m) u ≡ got (t' ∷ i) (key (t ∷ j) u)
 unfolding got
 linked_more t t' m i j C C' n f g u h k = (elim (eqb t u) as (λ b. eqb t u ≡ b → (b || has u j) ≡ true
-    → (if b then t' else look m u) ≡ (if eqb (suc (length i)) (if b then suc (length j) else key j u) then t' else got i (if b then suc (length j) else key j u))) [
+    → (when b then t' else look m u) ≡ (when eqb (suc (length i)) (when b then suc (length j) else key j u) then t' else got i (when b then suc (length j) else key j u))) [
       | true ↦ λ e h. rw (eq-eqb (suc (length i)) (suc (length j)) (ap suc n))
       | false ↦ λ e h. (let z = key_below j u h in rw (ne_eqb (suc (length i)) (key j u) (λ y. absurd (omega arith))) (f u h (g u e k)))
     ]) refl h
@@ -376,10 +376,10 @@ module _ (s : Setup) (p : ℕ) (j : List ℕ) (d : Desk) (i : List ℕ) (e : Des
 
       same : Then s p l (add_result s d (some t) q) ≡ less t old
       same = ap (keep (λ v. claims s p v (admitted s t q d) l)) (named_loose s d t q) ∙ keep_claimed (λ v. claims s p v (admitted s t q d) l) t d.loose
-          ∙ ap (less t) (keep_cong (λ v. if eqb t v then true else claims s p v (admitted s t q d) l) (λ v. if eqb t v then eqb q.priority p else claims s p v (admitted s t q d) l) d.loose (λ v. rw a))
+          ∙ ap (less t) (keep_cong (λ v. when eqb t v then true else claims s p v (admitted s t q d) l) (λ v. when eqb t v then eqb q.priority p else claims s p v (admitted s t q d) l) d.loose (λ v. rw a))
 
       in_old : has t old ≡ true
-      in_old = has_keep (λ v. if eqb t v then eqb q.priority p else claims s p v (admitted s t q d) l) t d.loose (rw (eq-eqb t t refl) a) z
+      in_old = has_keep (λ v. when eqb t v then eqb q.priority p else claims s p v (admitted s t q d) l) t d.loose (rw (eq-eqb t t refl) a) z
 
       once : times (look m t) (map (look m) old) ≤ 1
       once = subst (λ n. times (look m t) n ≤ 1) o.alike_loose (loose_once s e o.rel.unique' (look m t))
@@ -457,8 +457,8 @@ full_there s p j d i e m f o h =
 claims_own : (s : Setup) (p : ℕ) (d : Desk) (t : ℕ) (q : Request) (l : List Call) → eqb q.priority p ≡ true → add_refusal s d (some t) q ≡ none → claims s p t d (Call.add (some t) q ∷ l) ≡ true
 unfolding claims
 claims_own s p d t q l a y =
-    ap (λ (r : Result). if ends t (Call.add (some t) q) r.0 then eqb q.priority p else claims s p t r.1 l) (step_add s d (some t) q none y)
-    ∙ ap (λ b. if b then eqb q.priority p else claims s p t (add_result s d (some t) q).1 l) (eq-eqb t t refl) ∙ a
+    ap (λ (r : Result). when ends t (Call.add (some t) q) r.0 then eqb q.priority p else claims s p t r.1 l) (step_add s d (some t) q none y)
+    ∙ ap (λ b. when b then eqb q.priority p else claims s p t (add_result s d (some t) q).1 l) (eq-eqb t t refl) ∙ a
 
 -- rows 6 and 7 there
 rows_there : (s : Setup) (p : ℕ) (j : List ℕ) (d : Desk) (i : List ℕ) (e : Desk) (m : List (ℕ × ℕ)) (l : List Call) (named : Option ℕ) (q : Request) → eqb q.priority p ≡ true
@@ -576,7 +576,7 @@ module _ (s : Setup) (p : ℕ) (w : 16 ≤ s.width) where
   reserve_both j d i e m l none (some n) h v o r = absurd (none≢some (sym v))
   reserve_both j d i e m l none none h v o r = record {
     rel = r;
-    linked = λ t z k. (let y = has_not_last t old d.next (subst (λ n. has t n ≡ false) grown k) in ap (λ b. if b then e.next else look m t) y.1 ∙ o.linked t z y.0);
+    linked = λ t z k. (let y = has_not_last t old d.next (subst (λ n. has t n ≡ false) grown k) in ap (λ b. when b then e.next else look m t) y.1 ∙ o.linked t z y.0);
     alike_loose = reserved_loose s e ∙ ap (λ n. n ++ (e.next ∷ [])) (o.alike_loose ∙ sym (map_tie d.next e.next m old not_old))
         ∙ ap (λ n. map (look ((d.next, e.next) ∷ m)) old ++ (n ∷ [])) (sym own) ∙ sym (map_append (look ((d.next, e.next) ∷ m)) old (d.next ∷ []))
         ∙ ap (map (look ((d.next, e.next) ∷ m))) (sym grown);
@@ -594,7 +594,7 @@ module _ (s : Setup) (p : ℕ) (w : 16 ≤ s.width) where
       not_old : has d.next old ≡ false
       not_old = kept_has (λ t. claims s p t (reserved s d) l) d.next d.loose (next_not_loose s d o.rel.unique)
 
-  full_false : (d : Desk) (b : Bool) → accepted (unless (if b then some Because.Full else none) d (Answer.number d.next, reserved s d)).0 ≡ true → b ≡ false
+  full_false : (d : Desk) (b : Bool) → accepted (unless (when b then some Because.Full else none) d (Answer.number d.next, reserved s d)).0 ≡ true → b ≡ false
   full_false d true h = absurd (false≢true h)
   full_false d false h = refl
 
@@ -609,7 +609,7 @@ module _ (s : Setup) (p : ℕ) (w : 16 ≤ s.width) where
   unfolding reserves about step claims reserve_refusal
   after_reserve j d i e m l Call.reserve o a h = (
     reserve_both j d i e m l (reserve_refusal d) (reserve_refusal e) h
-        (ap (λ b. if b then some Because.Full else none) (full_there s p j d i e m (λ t. claims s p t d (Call.reserve ∷ l)) o (full_false d (full d) (and_left _ _ h)))) o
+        (ap (λ b. when b then some Because.Full else none) (full_there s p j d i e m (λ t. claims s p t d (Call.reserve ∷ l)) o (full_false d (full d) (and_left _ _ h)))) o
         (rel_there j (step s d Call.reserve).1 i e Call.reserve (rel_hidden s p w j d i e Call.reserve o.rel a) refl (λ n. refl)),
     refl,
     refl,
@@ -688,8 +688,8 @@ module _ (s : Setup) (p : ℕ) (w : 16 ≤ s.width) where
       let m' = tie (step s d c).0 (step s e c').0 m in
       let there = only s p m' d' e' l in
       (elim (about p d c) as (λ b. about p d c ≡ b
-      → (smooth s p e (if b || reserves s p d c l || asks_loose s p d c l then c' ∷ there else only s p m d' e l) ≡ true)
-      × (calls s p i e (if b || reserves s p d c l || asks_loose s p d c l then c' ∷ there else only s p m d' e l) ≡ (if b then call_by (key j) c ∷ calls s p j' d' l else calls s p j' d' l))) [
+      → (smooth s p e (when b || reserves s p d c l || asks_loose s p d c l then c' ∷ there else only s p m d' e l) ≡ true)
+      × (calls s p i e (when b || reserves s p d c l || asks_loose s p d c l then c' ∷ there else only s p m d' e l) ≡ (when b then call_by (key j) c ∷ calls s p j' d' l else calls s p j' d' l))) [
         | true ↦ λ a. (
             let k = like_there s p j d i e m (λ t. claims s p t d (c ∷ l)) c o a in
             let z = clear_there s p j d i e m l c o a clear in
@@ -698,7 +698,7 @@ module _ (s : Setup) (p : ℕ) (w : 16 ≤ s.width) where
             let rest = only_run j' d' i' e' m' l (after_shown j d i e m l c o a u (rel_shown s p w j d i e c c' o.rel a clear k.0 k.1 z)) on in
             (rw z rest.0, rw k.0 (λ x. k.1 x ∷ rest.1 x)))
         | false ↦ λ a. (elim (reserves s p d c l || asks_loose s p d c l) as (λ f. (reserves s p d c l || asks_loose s p d c l) ≡ f
-            → (smooth s p e (if f then c' ∷ there else only s p m d' e l) ≡ true) × (calls s p i e (if f then c' ∷ there else only s p m d' e l) ≡ calls s p j' d' l)) [
+            → (smooth s p e (when f then c' ∷ there else only s p m d' e l) ≡ true) × (calls s p i e (when f then c' ∷ there else only s p m d' e l) ≡ calls s p j' d' l)) [
               | true ↦ λ f. (
                   let k = after_there j d i e m l c o a f in
                   let rest = only_run j' d' i' e' m' l k.0 on in

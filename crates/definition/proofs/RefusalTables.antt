@@ -4,7 +4,7 @@ use mathlib.Core.Bool.{Bool, true, false, true≢false}
 use mathlib.Core.Option.{Option, none, some}
 use mathlib.Core.List.{List, [], ◌∷◌, ◌++◌}
 use Prim.Native.Nat.{ℕ}
-use Rattle.sizes.specs.Words.{if◌then◌else◌, first_of, Each}
+use Rattle.sizes.specs.Words.{when◌then◌else◌, first_of, Each}
 use Rattle.sizes.specs.declared.refusal.Refusal.{Refusal}
 use Rattle.sizes.specs.declared.refusal.Refusal.TheVariants as Because
 use Rattle.sizes.proofs.Lists.{first_none}
@@ -43,17 +43,17 @@ fail_late (r ∷ b) u = rw u.0 (fail_late b u.1)
 -- barred rows that do not show do not hold
 barred_none : (b : List (Refusal × Bool)) → Each (λ (r : Refusal × Bool). bars r.0 ≡ true) b → late_no (first_of b) ≡ false → first_of b ≡ none
 barred_none [] k h = refl
-barred_none (r ∷ b) k h = (elim r.1 as (λ t. late_no (if t then some r.0 else first_of b) ≡ false → (if t then some r.0 else first_of b) ≡ none)
+barred_none (r ∷ b) k h = (elim r.1 as (λ t. late_no (when t then some r.0 else first_of b) ≡ false → (when t then some r.0 else first_of b) ≡ none)
     [ true ↦ λ h. absurd (true≢false (sym k.0 ∙ h)) | false ↦ λ h. barred_none b k.1 h ]) h
 
 rows_early : (a b : List (Refusal × Bool)) → Each (λ (r : Refusal × Bool). bars r.0 ≡ true) b → late_no (first_of (a ++ b)) ≡ false → first_of (a ++ b) ≡ first_of a
 rows_early [] b k h = barred_none b k h
-rows_early (r ∷ a) b k h = (elim r.1 as (λ t. late_no (if t then some r.0 else first_of (a ++ b)) ≡ false → (if t then some r.0 else first_of (a ++ b)) ≡ (if t then some r.0 else first_of a))
+rows_early (r ∷ a) b k h = (elim r.1 as (λ t. late_no (when t then some r.0 else first_of (a ++ b)) ≡ false → (when t then some r.0 else first_of (a ++ b)) ≡ (when t then some r.0 else first_of a))
     [ true ↦ λ h. refl | false ↦ λ h. rows_early a b k h ]) h
 
 rows_unreached : (a b : List (Refusal × Bool)) → Each (λ (r : Refusal × Bool). bars r.0 ≡ false) a → (first_of a ≡ none → Each Fails b) → late_no (first_of (a ++ b)) ≡ false
 rows_unreached [] b k h = fail_late b (h refl)
-rows_unreached (r ∷ a) b k h = (elim r.1 as (λ t. ((if t then some r.0 else first_of a) ≡ none → Each Fails b) → late_no (if t then some r.0 else first_of (a ++ b)) ≡ false)
+rows_unreached (r ∷ a) b k h = (elim r.1 as (λ t. ((when t then some r.0 else first_of a) ≡ none → Each Fails b) → late_no (when t then some r.0 else first_of (a ++ b)) ≡ false)
     [ true ↦ λ h. k.0 | false ↦ λ h. rows_unreached a b k.1 h ]) h
 
 -- ---- of an add

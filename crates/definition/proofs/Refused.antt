@@ -2,7 +2,7 @@
 use mathlib.Core.Path.{◌≡◌, refl, sym, ◌∙◌}
 use mathlib.Core.Bool.{Bool, true, false, false≢true}
 use mathlib.Core.Option.{Option, none, some}
-use Rattle.sizes.specs.Words.{if◌then◌else◌, maybe, given, at}
+use Rattle.sizes.specs.Words.{when◌then◌else◌, maybe, given, at}
 use Rattle.sizes.specs.declared.refusal.Refusal.TheVariants as Because
 use Rattle.sizes.specs.declared.refusal.Refusal.{Refusal}
 use Rattle.definition.specs.Session.{Session}
@@ -11,7 +11,7 @@ use Rattle.definition.specs.Apart.{number_in, refusal_in}
 use Rattle.definition.specs.Promises.{RefusedStays}
 
 -- what both cases have, a choice has
-pub either : {A : Type 0} (P : A → Type 0) (t : Bool) (a b : A) → P a → P b → P (if t then a else b)
+pub either : {A : Type 0} (P : A → Type 0) (t : Bool) (a b : A) → P a → P b → P (when t then a else b)
 either P true a b u v = u
 either P false a b u v = v
 

@@ -9,7 +9,7 @@ use native.Mathlib.Omega.{arith}
 use lib.Dec.{ltb}
 use borrow.Author.Tests.{le-ltb, lt-leb}
 use lib.ListN.{length}
-use Rattle.sizes.specs.Words.{if◌then◌else◌, maybe, given, at, cut}
+use Rattle.sizes.specs.Words.{when◌then◌else◌, maybe, given, at, cut}
 use Rattle.sizes.specs.Partition.{sbn, esi, blocks_of, symbols_in}
 use Rattle.sizes.specs.declared.partition.Sizes.{Sizes}
 use Rattle.sizes.specs.declared.partition.Partition.{Partition}
@@ -61,10 +61,10 @@ first_read w c z b h k g = ⊎_elim full empty (below_or 0 c.size)
     x = fill w p (stopping false (fresh b))
 
     result : Option Open → Option Symbol × Encoder
-    result o = maybe (emptied c x) (λ o. if drained p o then visit 0 w c z false (without x (wrapped x)) else (let y = advanced x (wrapped x) o in (some (symbol_of c z false o y), y))) o
+    result o = maybe (emptied c x) (λ o. when drained p o then visit 0 w c z false (without x (wrapped x)) else (let y = advanced x (wrapped x) o in (some (symbol_of c z false o y), y))) o
 
     still : wrapped x ≡ 0
-    still = elim (ltb 0 (length x.window)) as (λ b. ◌≡◌ {A = ℕ} (if b then 0 else 0) 0) [ true ↦ refl | false ↦ refl ]
+    still = elim (ltb 0 (length x.window)) as (λ b. ◌≡◌ {A = ℕ} (when b then 0 else 0) 0) [ true ↦ refl | false ↦ refl ]
 
     empty : c.size ≤ 0 → given (result (at x.window (wrapped x))).0 ≡ true
     empty n =
@@ -96,7 +96,7 @@ no_third s now b q o h k g = go b (too_early now (begin now o).pace) (reads s (b
     (rw (listed_unforced (may_stop o.plan (started o.plan now o.life))) (first_read s.window o.part o.sizes (is_last o.plan (started o.plan now o.life)) h k g))
   where
     go : (b early : Bool) (y : Option Symbol) → early ≡ false → given y ≡ true
-        → goes_again (if b then Round.over (idle q (some (begin now o))) else if early then Round.over (idle q (some (begin now o)))
+        → goes_again (when b then Round.over (idle q (some (begin now o))) else when early then Round.over (idle q (some (begin now o)))
         else elim y [ none ↦ Round.again (put_back now (begin now o) q) | some y ↦ Round.over (sent q (begin now o) (reads s (begin now o)).1 y) ]) ≡ false
     go true early y a e = refl
     go false true y a e = absurd (true≢false a)
@@ -109,7 +109,7 @@ unfolding fdt_round fdt_in_hand_or_next fdt_round_with
 fdt_no_third s now draft taken f h k g e = rw e (go n.starts)
   where
     n : Next
-    n = next_fdt s now (if taken then none else draft) f.state
+    n = next_fdt s now (when taken then none else draft) f.state
 
     go : (x : Option Instance) → fdt_goes_again (fdt_round_with s now (taken || n.taken) n.state (fdt_begun x)) ≡ false
     go none = refl
@@ -157,7 +157,7 @@ fdt_rounds_enough n s now draft f h k g = go (fdt_round s now draft false f) (le
 module _ (p : Partition) where
   pub spent : List Open → ℕ
   spent [] = 0
-  spent (o ∷ l) = (if drained p o then 1 else 0) + spent l
+  spent (o ∷ l) = (when drained p o then 1 else 0) + spent l
 
   spent_append : (a b : List Open) → spent (a ++ b) ≡ spent a + spent b
   unfolding spent
@@ -167,7 +167,7 @@ module _ (p : Partition) where
   spent_le : (l : List Open) → spent l ≤ length l
   unfolding spent
   spent_le [] = omega arith
-  spent_le (o ∷ l) = let h = spent_le l in elim (drained p o) as (λ b. (if b then 1 else 0) + spent l ≤ suc (length l)) [ true ↦ omega arith | false ↦ omega arith ]
+  spent_le (o ∷ l) = let h = spent_le l in elim (drained p o) as (λ b. (when b then 1 else 0) + spent l ≤ suc (length l)) [ true ↦ omega arith | false ↦ omega arith ]
 
   spent_cut : (l : List Open) (i : ℕ) (o : Open) → at l i ≡ some o → drained p o ≡ true → spent l ≡ suc (spent (cut l i))
   unfolding spent
@@ -193,7 +193,7 @@ module _ (w : ℕ) (c : Part) (z : Sizes) (force : Bool) (f : Filled (blocks_of 
   left x = spent (blocks_of z c.size) x.window
 
   turn : Encoder → Option Symbol × Encoder → Option Open → Option Symbol × Encoder
-  turn y again o = maybe (emptied c y) (λ o. if drained (blocks_of z c.size) o then again else (let y' = advanced y (wrapped y) o in (some (symbol_of c z force o y'), y'))) o
+  turn y again o = maybe (emptied c y) (λ o. when drained (blocks_of z c.size) o then again else (let y' = advanced y (wrapped y) o in (some (symbol_of c z force o y'), y'))) o
 
   one_turn : (k : ℕ) (x : Encoder) → visit (suc k) w c z force x
       ≡ turn (fill w (blocks_of z c.size) x) (visit k w c z force (without (fill w (blocks_of z c.size) x) (wrapped (fill w (blocks_of z c.size) x)))) (at (fill w (blocks_of z c.size) x).window (wrapped (fill w (blocks_of z c.size) x)))
@@ -209,8 +209,8 @@ module _ (w : ℕ) (c : Part) (z : Sizes) (force : Bool) (f : Filled (blocks_of 
   unfolding turn
   same_turn y A B none h = refl
   same_turn y A B (some v) h = (elim (drained (blocks_of z c.size) v) as (λ b. drained (blocks_of z c.size) v ≡ b
-      → (if b then A else (let y' = advanced y (wrapped y) v in (some (symbol_of c z force v y'), y')))
-      ≡ (if b then B else (let y' = advanced y (wrapped y) v in (some (symbol_of c z force v y'), y'))))
+      → (when b then A else (let y' = advanced y (wrapped y) v in (some (symbol_of c z force v y'), y')))
+      ≡ (when b then B else (let y' = advanced y (wrapped y) v in (some (symbol_of c z force v y'), y'))))
       [ true ↦ λ e. h v refl e | false ↦ λ e. refl ]) refl
 
   -- however many more are allowed, the outcome is the same
@@ -230,5 +230,5 @@ module _ (w : ℕ) (c : Part) (z : Sizes) (force : Bool) (f : Filled (blocks_of 
 pub visits_enough : VisitsEnough
 unfolding read_longer read stopping
 visits_enough n w c z force x h g = elim x.stopped
-    as (λ b. (if b then (none, x) else visit (suc (length x.window + n)) w c z force (stopping force x)) ≡ (if b then (none, x) else visit (suc (length x.window)) w c z force (stopping force x)))
+    as (λ b. (when b then (none, x) else visit (suc (length x.window + n)) w c z force (stopping force x)) ≡ (when b then (none, x) else visit (suc (length x.window)) w c z force (stopping force x)))
     [ true ↦ refl | false ↦ turns_enough w c z force (filled z c.size h g) (length x.window + n) (stopping force x) (omega arith) ]

@@ -4,7 +4,7 @@ use mathlib.Core.Bool.{Bool, true, false, ◌||◌}
 use mathlib.Core.Option.{Option, none, some}
 use mathlib.Core.List.{List}
 use Prim.Native.Nat.{ℕ}
-use Rattle.sizes.specs.Words.{if◌then◌else◌, given, find, drop_first}
+use Rattle.sizes.specs.Words.{when◌then◌else◌, given, find, drop_first}
 use Rattle.lifecycle.specs.Lifecycle.{too_early}
 use Rattle.lifecycle.specs.Setup.{Setup}
 use Rattle.definition.specs.Encoder.{Encoder, Symbol, read}
@@ -34,7 +34,7 @@ module _ (s : Setup) (p now : ℕ) (b : Bool) (I : List Object → Option Hand �
   with_goes q h u = go b (too_early now h.pace) (reads s h).0
     where
       go : (b early : Bool) (y : Option Symbol)
-          → Goes (if b then over (idle q (some h)) else if early then over (idle q (some h)) else elim y [ none ↦ again (put_back now h q) | some y ↦ over (sent q h (reads s h).1 y) ])
+          → Goes (when b then over (idle q (some h)) else when early then over (idle q (some h)) else elim y [ none ↦ again (put_back now h q) | some y ↦ over (sent q h (reads s h).1 y) ])
       go true early y = k.rests q (some h) u
       go false true y = k.rests q (some h) u
       go false false none = k.ends q h u
@@ -76,7 +76,7 @@ pub record FdtSteps (s : Setup) (now : ℕ) (draft : Option Part) (I : Bool → 
   pub sends : (taken : Bool) (f : FdtState) (h : FdtHand) (y : Symbol) → I taken (record { state = f; hand = some h }) → T (fdt_sent taken f h (fdt_reads s h).1 y)
   pub ends : (taken : Bool) (f : FdtState) (h : FdtHand) → I taken (record { state = f; hand = some h }) → I taken (record { state = fdt_done now f; hand = none })
   pub asks : (taken : Bool) (f : Fdt) → f.hand ≡ none → I taken f
-      → (let n = next_fdt s now (if taken then none else draft) f.state in I (taken || n.taken) (record { state = n.state; hand = fdt_begun n.starts }))
+      → (let n = next_fdt s now (when taken then none else draft) f.state in I (taken || n.taken) (record { state = n.state; hand = fdt_begun n.starts }))
 
 module _ (s : Setup) (now : ℕ) (draft : Option Part) (I : Bool → Fdt → Type 0) (T : FdtTurn → Type 0) (k : FdtSteps s now draft I T) where
   abbrev FdtGoes : FdtRound → Type 0
@@ -97,10 +97,10 @@ module _ (s : Setup) (now : ℕ) (draft : Option Part) (I : Bool → Fdt → Typ
   fdt_round_goes taken f u = go f.hand refl
     where
       n : Next
-      n = next_fdt s now (if taken then none else draft) f.state
+      n = next_fdt s now (when taken then none else draft) f.state
 
       t : Bool → Bool × Fdt
-      t b = if b then (taken, f) else (taken || n.taken, record { state = n.state; hand = fdt_begun n.starts })
+      t b = when b then (taken, f) else (taken || n.taken, record { state = n.state; hand = fdt_begun n.starts })
 
       go : (h : Option FdtHand) → f.hand ≡ h → FdtGoes (fdt_round_with s now (t (given h)).0 (t (given h)).1.state (t (given h)).1.hand)
       go none e = fdt_with_goes (taken || n.taken) n.state (fdt_begun n.starts) (k.asks taken f e u)

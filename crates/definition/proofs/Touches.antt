@@ -4,7 +4,7 @@ use mathlib.Core.Bool.{Bool, true, false, not}
 use mathlib.Core.Option.{Option, none, some}
 use mathlib.Core.List.{List, [], ◌∷◌, map}
 use Prim.Native.Nat.{ℕ}
-use Rattle.sizes.specs.Words.{if◌then◌else◌, maybe, over, keep, collect, Each}
+use Rattle.sizes.specs.Words.{when◌then◌else◌, maybe, over, keep, collect, Each}
 use Rattle.lifecycle.specs.Lifecycle.{Life, triggered}
 use Rattle.definition.specs.Session.{Object, Hand, Session, living}
 use Rattle.definition.specs.Desk.{Touch, is, in_hand, waiting_after, hand_after, touched_waiting, touched_hand}
@@ -69,7 +69,7 @@ module _ (g : Object → Option Object) (k : (o : Object) → Waiting o (g o)) w
     seen_touched g' (o ∷ q) u = go (mine p o) refl (g o) (k o) u.0 (seen_touched g' q u.1)
       where
         go : (b : Bool) → mine p o ≡ b → (y : Option Object) → Waiting o y → (mine p o ≡ true → g' (retag f o) ≡ over (retag f) y) → seen p f (collect g q) ≡ collect g' (seen p f q)
-            → seen p f (maybe (collect g q) (λ z. z ∷ collect g q) y) ≡ collect g' (if b then retag f o ∷ seen p f q else seen p f q)
+            → seen p f (maybe (collect g q) (λ z. z ∷ collect g q) y) ≡ collect g' (when b then retag f o ∷ seen p f q else seen p f q)
         go true e y gone c r = rw (c e) r
         go true e y (lives l) c r = rw (c e) (rw e (ap (λ z. retag f (living l o) ∷ z) r))
         go false e y gone c r = r
@@ -81,7 +81,7 @@ module _ (g : Object → Option Object) (k : (o : Object) → Waiting o (g o)) w
     seen_still (o ∷ q) u = go (mine p o) refl (g o) (k o) u.0 (seen_still q u.1)
       where
         go : (b : Bool) → mine p o ≡ b → (y : Option Object) → Waiting o y → (mine p o ≡ true → y ≡ some o) → seen p f (collect g q) ≡ seen p f q
-            → seen p f (maybe (collect g q) (λ z. z ∷ collect g q) y) ≡ (if b then retag f o ∷ seen p f q else seen p f q)
+            → seen p f (maybe (collect g q) (λ z. z ∷ collect g q) y) ≡ (when b then retag f o ∷ seen p f q else seen p f q)
         go true e y w c r = rw (c e) (rw e (ap (λ z. retag f o ∷ z) r))
         go false e y gone c r = r
         go false e y (lives l) c r = rw e r
@@ -92,17 +92,17 @@ module _ (g : Object → Option Object) (k : (o : Object) → Waiting o (g o)) w
 pub removed_waiting : (t : ℕ) (q : List Object) → collect (touched_waiting t Touch.remove) q ≡ keep (λ o. not (is t o)) q
 unfolding touched_waiting
 removed_waiting t [] = refl
-removed_waiting t (o ∷ q) = elim (is t o) as (λ b. maybe (collect (touched_waiting t Touch.remove) q) (λ z. z ∷ collect (touched_waiting t Touch.remove) q) (if b then none else some o) ≡ (if not b then o ∷ keep (λ o. not (is t o)) q else keep (λ o. not (is t o)) q))
+removed_waiting t (o ∷ q) = elim (is t o) as (λ b. maybe (collect (touched_waiting t Touch.remove) q) (λ z. z ∷ collect (touched_waiting t Touch.remove) q) (when b then none else some o) ≡ (when not b then o ∷ keep (λ o. not (is t o)) q else keep (λ o. not (is t o)) q))
     [ true ↦ removed_waiting t q | false ↦ ap (λ r. o ∷ r) (removed_waiting t q) ]
 
 -- triggered: one that waits, and none in transfer
 unfoldable pub prompted : ℕ → Option ℕ → Object → Object
-prompted t f o = if is t o then living (triggered f o.life) o else o
+prompted t f o = when is t o then living (triggered f o.life) o else o
 
 pub prompted_waiting : (t : ℕ) (f : Option ℕ) (q : List Object) → collect (touched_waiting t (Touch.trigger f)) q ≡ map (prompted t f) q
 unfolding touched_waiting prompted
 prompted_waiting t f [] = refl
-prompted_waiting t f (o ∷ q) = elim (is t o) as (λ b. maybe (collect (touched_waiting t (Touch.trigger f)) q) (λ z. z ∷ collect (touched_waiting t (Touch.trigger f)) q) (if b then some (living (triggered f o.life) o) else some o) ≡ (if b then living (triggered f o.life) o else o) ∷ map (prompted t f) q)
+prompted_waiting t f (o ∷ q) = elim (is t o) as (λ b. maybe (collect (touched_waiting t (Touch.trigger f)) q) (λ z. z ∷ collect (touched_waiting t (Touch.trigger f)) q) (when b then some (living (triggered f o.life) o) else some o) ≡ (when b then living (triggered f o.life) o else o) ∷ map (prompted t f) q)
     [ true ↦ ap (λ r. living (triggered f o.life) o ∷ r) (prompted_waiting t f q) | false ↦ ap (λ r. o ∷ r) (prompted_waiting t f q) ]
 
 pub prompted_hands : (t : ℕ) (f : Option ℕ) (l : List Session) → map (in_hand (touched_hand t (Touch.trigger f))) l ≡ l
@@ -110,6 +110,6 @@ unfolding in_hand touched_hand
 prompted_hands t f [] = refl
 prompted_hands t f (x ∷ l) = λ i. record { priority = x.priority; hand = same x.hand i } ∷ prompted_hands t f l i
   where
-    same : (h : Option Hand) → maybe none (λ h. some (if is t h.object then h else h)) h ≡ h
+    same : (h : Option Hand) → maybe none (λ h. some (when is t h.object then h else h)) h ≡ h
     same none = refl
-    same (some h) = elim (is t h.object) as (λ b. some (if b then h else h) ≡ some h) [ true ↦ refl | false ↦ refl ]
+    same (some h) = elim (is t h.object) as (λ b. some (when b then h else h) ≡ some h) [ true ↦ refl | false ↦ refl ]

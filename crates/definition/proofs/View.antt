@@ -5,7 +5,7 @@ use mathlib.Core.Option.{Option, none, some}
 use mathlib.Core.List.{List, [], ◌∷◌, ◌++◌, map}
 use Prim.Native.Nat.{ℕ}
 use lib.Dec.{eqb}
-use Rattle.sizes.specs.Words.{if◌then◌else◌, find, drop_first}
+use Rattle.sizes.specs.Words.{when◌then◌else◌, find, drop_first}
 use Rattle.sizes.specs.Words.{over as perhaps}
 use Rattle.definition.specs.Encoder.{Symbol}
 use Rattle.lifecycle.specs.Lifecycle.{too_early, expired, finished, may_start}
@@ -33,15 +33,15 @@ module _ (p : ℕ) (f : ℕ → ℕ) where
   -- the priority's objects of a list
   abbrev pub seen : List Object → List Object
   seen [] = []
-  seen (o ∷ q) = if mine p o then retag f o ∷ seen q else seen q
+  seen (o ∷ q) = when mine p o then retag f o ∷ seen q else seen q
 
   -- a session: another priority's is empty
   abbrev pub see : Session → Session
-  see x = record { priority = x.priority; hand = if eqb x.priority p then perhaps (retag_held f) x.hand else none }
+  see x = record { priority = x.priority; hand = when eqb x.priority p then perhaps (retag_held f) x.hand else none }
 
   pub seen_append : (a b : List Object) → seen (a ++ b) ≡ seen a ++ seen b
   seen_append [] b = refl
-  seen_append (o ∷ a) b = elim (mine p o) as (λ t. (if t then retag f o ∷ seen (a ++ b) else seen (a ++ b)) ≡ (if t then retag f o ∷ seen a else seen a) ++ seen b)
+  seen_append (o ∷ a) b = elim (mine p o) as (λ t. (when t then retag f o ∷ seen (a ++ b) else seen (a ++ b)) ≡ (when t then retag f o ∷ seen a else seen a) ++ seen b)
       [ true ↦ ap (λ l. retag f o ∷ l) (seen_append a b) | false ↦ seen_append a b ]
 
   pub seen_mine : (o : Object) → mine p o ≡ true → seen (o ∷ []) ≡ retag f o ∷ []
@@ -56,19 +56,19 @@ module _ (p : ℕ) (f : ℕ → ℕ) where
 
   pub seen_find : (ok ok' : Object → Bool) (q : List Object) → Each (Alike ok ok') q → find ok' (seen q) ≡ perhaps (retag f) (find ok q)
   seen_find ok ok' [] u = refl
-  seen_find ok ok' (o ∷ q) u = (elim (mine p o) as (λ t. mine p o ≡ t → find ok' (if t then retag f o ∷ seen q else seen q) ≡ perhaps (retag f) (if ok o then some o else find ok q)) [
-    | true ↦ λ e. rw (u.0.0 e) (elim (ok o) as (λ b. (if b then some (retag f o) else find ok' (seen q)) ≡ perhaps (retag f) (if b then some o else find ok q))
+  seen_find ok ok' (o ∷ q) u = (elim (mine p o) as (λ t. mine p o ≡ t → find ok' (when t then retag f o ∷ seen q else seen q) ≡ perhaps (retag f) (when ok o then some o else find ok q)) [
+    | true ↦ λ e. rw (u.0.0 e) (elim (ok o) as (λ b. (when b then some (retag f o) else find ok' (seen q)) ≡ perhaps (retag f) (when b then some o else find ok q))
         [ true ↦ refl | false ↦ seen_find ok ok' q u.1 ])
-    | false ↦ λ e. (elim (ok o) as (λ b. ok o ≡ b → find ok' (seen q) ≡ perhaps (retag f) (if b then some o else find ok q))
+    | false ↦ λ e. (elim (ok o) as (λ b. ok o ≡ b → find ok' (seen q) ≡ perhaps (retag f) (when b then some o else find ok q))
         [ true ↦ λ k. absurd (true≢false (sym (u.0.1 k) ∙ e)) | false ↦ λ k. seen_find ok ok' q u.1 ]) refl
   ]) refl
 
   pub seen_drop : (ok ok' : Object → Bool) (q : List Object) → Each (Alike ok ok') q → drop_first ok' (seen q) ≡ seen (drop_first ok q)
   seen_drop ok ok' [] u = refl
-  seen_drop ok ok' (o ∷ q) u = (elim (mine p o) as (λ t. mine p o ≡ t → drop_first ok' (if t then retag f o ∷ seen q else seen q) ≡ seen (if ok o then q else o ∷ drop_first ok q)) [
-    | true ↦ λ e. rw (u.0.0 e) ((elim (ok o) as (λ b. (if b then seen q else retag f o ∷ drop_first ok' (seen q)) ≡ seen (if b then q else o ∷ drop_first ok q))
+  seen_drop ok ok' (o ∷ q) u = (elim (mine p o) as (λ t. mine p o ≡ t → drop_first ok' (when t then retag f o ∷ seen q else seen q) ≡ seen (when ok o then q else o ∷ drop_first ok q)) [
+    | true ↦ λ e. rw (u.0.0 e) ((elim (ok o) as (λ b. (when b then seen q else retag f o ∷ drop_first ok' (seen q)) ≡ seen (when b then q else o ∷ drop_first ok q))
         [ true ↦ refl | false ↦ rw e (ap (λ l. retag f o ∷ l) (seen_drop ok ok' q u.1)) ]))
-    | false ↦ λ e. (elim (ok o) as (λ b. ok o ≡ b → drop_first ok' (seen q) ≡ seen (if b then q else o ∷ drop_first ok q))
+    | false ↦ λ e. (elim (ok o) as (λ b. ok o ≡ b → drop_first ok' (seen q) ≡ seen (when b then q else o ∷ drop_first ok q))
         [ true ↦ λ k. absurd (true≢false (sym (u.0.1 k) ∙ e)) | false ↦ λ k. rw e (seen_drop ok ok' q u.1) ]) refl
   ]) refl
 
@@ -76,7 +76,7 @@ module _ (p : ℕ) (f : ℕ → ℕ) where
   pub seen_map : (g g' : Object → Object) (q : List Object)
       → Each (λ o. (mine p (g o) ≡ mine p o) × (mine p o ≡ true → retag f (g o) ≡ g' (retag f o))) q → seen (map g q) ≡ map g' (seen q)
   seen_map g g' [] u = refl
-  seen_map g g' (o ∷ q) u = rw u.0.0 ((elim (mine p o) as (λ t. mine p o ≡ t → (if t then retag f (g o) ∷ seen (map g q) else seen (map g q)) ≡ map g' (if t then retag f o ∷ seen q else seen q))
+  seen_map g g' (o ∷ q) u = rw u.0.0 ((elim (mine p o) as (λ t. mine p o ≡ t → (when t then retag f (g o) ∷ seen (map g q) else seen (map g q)) ≡ map g' (when t then retag f o ∷ seen q else seen q))
       [ true ↦ λ e. (λ i. u.0.1 e i ∷ seen_map g g' q u.1 i) | false ↦ λ e. seen_map g g' q u.1 ]) refl)
 
   -- a turn as it is seen
@@ -92,7 +92,7 @@ module _ (p : ℕ) (f : ℕ → ℕ) where
   unfolding put_back
   back_seen now h q e =
       let o = living (finished now h.object.life) h.object in
-      elim (h.listed && not (expired o.plan o.life)) as (λ t. (if t then seen q ++ (retag f o ∷ []) else seen q) ≡ seen (if t then q ++ (o ∷ []) else q))
+      elim (h.listed && not (expired o.plan o.life)) as (λ t. (when t then seen q ++ (retag f o ∷ []) else seen q) ≡ seen (when t then q ++ (o ∷ []) else q))
       [ true ↦ sym (seen_append q (o ∷ []) ∙ ap (λ l. seen q ++ l) (seen_mine o e)) | false ↦ refl ]
 
   abbrev see_round : Round → Round
@@ -105,9 +105,9 @@ module _ (p : ℕ) (f : ℕ → ℕ) where
     with_seen q h e = go b (too_early now h.pace) (reads s h).0
       where
         go : (b early : Bool) (y : Option Symbol)
-            → (if b then over (idle (seen q) (some (retag_held f h))) else if early then over (idle (seen q) (some (retag_held f h)))
+            → (when b then over (idle (seen q) (some (retag_held f h))) else when early then over (idle (seen q) (some (retag_held f h)))
             else elim y [ none ↦ again (put_back now (retag_held f h) (seen q)) | some y ↦ over (sent (seen q) (retag_held f h) (reads s h).1 y) ])
-            ≡ see_round (if b then over (idle q (some h)) else if early then over (idle q (some h)) else elim y [ none ↦ again (put_back now h q) | some y ↦ over (sent q h (reads s h).1 y) ])
+            ≡ see_round (when b then over (idle q (some h)) else when early then over (idle q (some h)) else elim y [ none ↦ again (put_back now h q) | some y ↦ over (sent q h (reads s h).1 y) ])
         go true early y = refl
         go false true y = refl
         go false false none = ap again (back_seen now h q e)

@@ -7,7 +7,7 @@ use Prim.Native.Nat.{ℕ, zero, suc, ◌+◌, ◌≤◌}
 use native.Mathlib.Omega.{arith}
 use lib.Dec.{eqb}
 use lib.ListN.{length, set}
-use Rattle.sizes.specs.Words.{if◌then◌else◌, maybe, given, keep, at, find, drop_first, times, one_if, collect}
+use Rattle.sizes.specs.Words.{when◌then◌else◌, maybe, given, keep, at, find, drop_first, times, one_if, collect}
 use Rattle.sizes.specs.declared.refusal.Refusal.TheVariants as Because
 use Rattle.sizes.proofs.Tests.{none≢some}
 use Rattle.lifecycle.specs.Lifecycle.{Life, announced, expired, finished, started}
@@ -35,7 +35,7 @@ module _ {A : Type 0} (w : A → ℕ) where
 
   pub total_keep : (ok : A → Bool) (l : List A) → total w (keep ok l) ≤ total w l
   total_keep ok [] = omega arith
-  total_keep ok (a ∷ l) = elim (ok a) as (λ t. total w (if t then a ∷ keep ok l else keep ok l) ≤ w a + total w l)
+  total_keep ok (a ∷ l) = elim (ok a) as (λ t. total w (when t then a ∷ keep ok l else keep ok l) ≤ w a + total w l)
       [ true ↦ (let h = total_keep ok l in omega arith) | false ↦ (let h = total_keep ok l in omega arith) ]
 
   pub total_map : (f : A → A) → ((a : A) → w (f a) ≡ w a) → (l : List A) → total w (map f l) ≡ total w l
@@ -45,7 +45,7 @@ module _ {A : Type 0} (w : A → ℕ) where
   -- the first that passes is taken out
   pub total_take : (ok : A → Bool) (l : List A) (a : A) → find ok l ≡ some a → total w (drop_first ok l) + w a ≡ total w l
   total_take ok [] a e = absurd (none≢some e)
-  total_take ok (b ∷ l) a e = (elim (ok b) as (λ t. (if t then some b else find ok l) ≡ some a → total w (if t then l else b ∷ drop_first ok l) + w a ≡ w b + total w l) [
+  total_take ok (b ∷ l) a e = (elim (ok b) as (λ t. (when t then some b else find ok l) ≡ some a → total w (when t then l else b ∷ drop_first ok l) + w a ≡ w b + total w l) [
     | true ↦ λ e. (let s : b ≡ a = cc in let z = ap w s in omega arith)
     | false ↦ λ e. (let h = total_take ok l a e in omega arith)
   ]) e
@@ -146,7 +146,7 @@ module _ (w : Object → ℕ) where
       let c = total_append w d.queue (made s t q ∷ []) in omega arith
 
   -- whether it names a reservation or not
-  pub total_reserved : (s : Setup) (d : Desk) (named : Option ℕ) → total w (objects (if given named then d else reserved s d)) ≡ total w (objects d)
+  pub total_reserved : (s : Setup) (d : Desk) (named : Option ℕ) → total w (objects (when given named then d else reserved s d)) ≡ total w (objects d)
   unfolding reserved numbered objects
   total_reserved s d none = refl
   total_reserved s d (some t) = refl
@@ -231,7 +231,7 @@ module _ (w : Object → ℕ) where
       where
         add_bound : (named : Option ℕ) (q : Request) → total w (objects (step s d (Call.add named q)).1) ≤ b
         add_bound named q = kept (λ e. total w (objects e) ≤ b) (add_refusal s d named q) d _ u
-            (λ e. let m = k named q e in let a = total_admitted s (toi_for d named) q (if given named then d else reserved s d) in let c = total_reserved s d named in omega arith)
+            (λ e. let m = k named q e in let a = total_admitted s (toi_for d named) q (when given named then d else reserved s d) in let c = total_reserved s d named in omega arith)
 
         go : (c : Call) → Sort c → total w (objects (step s d c).1) ≤ b
         go c (an_add named q e) = rw e (add_bound named q)

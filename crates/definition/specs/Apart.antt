@@ -1,7 +1,7 @@
 -- Demand 3, stated: what one priority's callers ask and are told, and that nothing else has a say in it.
 use Rattle.std.specs.Prelude.{◌≡◌, Bool, true, false, not, ◌&&◌, ◌||◌, List, [], ◌∷◌, ℕ, suc, eqb, length}
 use Rattle.std.proofs.Math.Option.{Option, none, some}
-use Rattle.sizes.specs.Words.{if◌then◌else◌, maybe, given, any, at, has}
+use Rattle.sizes.specs.Words.{when◌then◌else◌, maybe, given, any, at, has}
 use Rattle.sizes.specs.declared.refusal.Refusal.{Refusal}
 use Rattle.sizes.specs.Refusals.{refusal_number}
 use Rattle.lifecycle.specs.Setup.{Setup}
@@ -80,12 +80,12 @@ accepted a = not (given (refusal_in a))
 
 -- the numbers that the priority's admissions got, latest first, after one more call
 abbrev pub got_after : ℕ → Call → Answer → List ℕ → List ℕ
-got_after p c a j = maybe j (λ x. maybe j (λ t. if eqb x.1.priority p then t ∷ j else j) (number_in a)) (adding c)
+got_after p c a j = maybe j (λ x. maybe j (λ t. when eqb x.1.priority p then t ∷ j else j) (number_in a)) (adding c)
 
 -- which admission last got the number, counted from 1, or 0 for none: what a number stands for
 abbrev pub key : List ℕ → ℕ → ℕ
 key [] t = 0
-key (u ∷ j) t = if eqb u t then suc (length j) else key j t
+key (u ∷ j) t = when eqb u t then suc (length j) else key j t
 
 -- a question with its object number put through f
 abbrev pub question_by : (ℕ → ℕ) → Question → Question
@@ -110,7 +110,7 @@ call_by f = renumbered f (λ named. none)
 
 -- an FDT's packet keeps its 0
 abbrev pub packet_by : (ℕ → ℕ) → Packet → Packet
-packet_by f k = record { id = k.id; toi = if given k.id then k.toi else f k.toi; symbol = k.symbol }
+packet_by f k = record { id = k.id; toi = when given k.id then k.toi else f k.toi; symbol = k.symbol }
 
 abbrev pub perhaps_by : (ℕ → ℕ) → Option Packet → Option Packet
 perhaps_by f none = none
@@ -149,7 +149,7 @@ module _ (s : Setup) (p : ℕ) where
   calls j d (c ∷ l) =
       let r = step s d c in
       let rest = calls (got_after p c r.0 j) r.1 l in
-      if about p d c then call_by (key j) c ∷ rest else rest
+      when about p d c then call_by (key j) c ∷ rest else rest
 
   -- their answers
   unfoldable pub answers : List ℕ → Desk → List Call → List Answer
@@ -158,7 +158,7 @@ module _ (s : Setup) (p : ℕ) where
       let r = step s d c in
       let j' = got_after p c r.0 j in
       let rest = answers j' r.1 l in
-      if about p d c then answer_by (key j') r.0 ∷ rest else rest
+      when about p d c then answer_by (key j') r.0 ∷ rest else rest
 
   -- does none of them meet refusal 5, 6 or 7
   unfoldable pub smooth : Desk → List Call → Bool
@@ -207,7 +207,7 @@ asked (Call.run_file i now) = none
 -- the number there of what has number t here, latest first
 abbrev pub look : List (ℕ × ℕ) → ℕ → ℕ
 look [] t = 0
-look (r ∷ l) t = if eqb r.0 t then r.1 else look l t
+look (r ∷ l) t = when eqb r.0 t then r.1 else look l t
 
 -- the call, with the numbers there
 abbrev pub through : List (ℕ × ℕ) → Call → Call
@@ -221,7 +221,7 @@ module _ (s : Setup) (p : ℕ) where
   -- is the reservation of t the priority's: its next end, from desk d on, is an admitted add of the priority
   unfoldable pub claims : ℕ → Desk → List Call → Bool
   claims t d [] = false
-  claims t d (c ∷ l) = let r = step s d c in let rest = claims t r.1 l in if ends t c r.0 then adds p c else rest
+  claims t d (c ∷ l) = let r = step s d c in let rest = claims t r.1 l in when ends t c r.0 then adds p c else rest
 
   -- does the call make a reservation of the priority
   unfoldable pub reserves : Desk → Call → List Call → Bool
@@ -247,7 +247,7 @@ module _ (s : Setup) (p : ℕ) where
       let r' = step s e (through m c) in
       let here = through m c ∷ only (tie r.0 r'.0 m) r.1 r'.1 l in
       let past = only m r.1 e l in
-      if about p d c || reserves d c l || asks_loose d c l then here else past
+      when about p d c || reserves d c l || asks_loose d c l then here else past
 
   -- that run, from set-up
   unfoldable pub lone : List Call → List Call

@@ -1,7 +1,7 @@
 -- The desk: its state, its calls, what it answers and what it says no to (src/sender/sender.rs, fdt.rs).
 use Rattle.std.specs.Prelude.{Bool, true, false, not, ◌&&◌, ◌||◌, List, [], ◌∷◌, ◌++◌, map, ℕ, eqb, leb, length, set}
 use Rattle.std.proofs.Math.Option.{Option, none, some}
-use Rattle.sizes.specs.Words.{if◌then◌else◌, maybe, given, collect, keep, any, at, has, find, first_of}
+use Rattle.sizes.specs.Words.{when◌then◌else◌, maybe, given, collect, keep, any, at, has, find, first_of}
 use Rattle.sizes.specs.declared.refusal.Refusal.{Refusal}
 use Rattle.sizes.specs.declared.refusal.Refusal.TheVariants as Because
 use Rattle.sizes.specs.Limits.{toi_entries, object_slots, waiting_fdts}
@@ -75,7 +75,7 @@ opening s = record {
 
 -- set-up: refusal 1, and no desk, where a number is out of its range
 unfoldable pub set_up : Setup → Answer × Option Desk
-set_up s = if sound s then (done, some (opening s)) else (refused Because.SetUp, none)
+set_up s = when sound s then (done, some (opening s)) else (refused Because.SetUp, none)
 
 -- the objects that sessions have in hand
 unfoldable pub in_hands : List Session → List Object
@@ -95,7 +95,7 @@ is t o = eqb o.toi t
 
 -- the listed objects that sessions have in hand
 unfoldable pub listed_in_hands : List Session → List Object
-listed_in_hands = collect (λ (x : Session). maybe none (λ (h : Hand). if h.listed then some h.object else none) x.hand)
+listed_in_hands = collect (λ (x : Session). maybe none (λ (h : Hand). when h.listed then some h.object else none) x.hand)
 
 -- the listed object with this number
 unfoldable pub listed_as : Desk → ℕ → Option Object
@@ -122,7 +122,7 @@ unfoldable pub marked : Object → Object
 marked o = living (announced o.life) o
 
 unfoldable pub marked_hand : Hand → Hand
-marked_hand h = if h.listed then record { object = marked h.object; listed = true; encoder = h.encoder; pace = h.pace } else h
+marked_hand h = when h.listed then record { object = marked h.object; listed = true; encoder = h.encoder; pace = h.pace } else h
 
 unfoldable pub all_published : Desk → Desk
 all_published d = moved d (map marked d.queue) (map (in_hand marked_hand) d.sessions)
@@ -139,10 +139,10 @@ hand_after (trigger f) h = h
 
 -- only the object with the number is touched
 unfoldable pub touched_waiting : ℕ → Touch → Object → Option Object
-touched_waiting t x o = if is t o then waiting_after x o else some o
+touched_waiting t x o = when is t o then waiting_after x o else some o
 
 unfoldable pub touched_hand : ℕ → Touch → Hand → Hand
-touched_hand t x h = if is t h.object then hand_after x h else h
+touched_hand t x h = when is t h.object then hand_after x h else h
 
 unfoldable pub touched : ℕ → Touch → Desk → Desk
 touched t x d = moved d (collect (touched_waiting t x) d.queue) (map (in_hand (touched_hand t x)) d.sessions)
@@ -239,7 +239,7 @@ publish_refusal s f c = first_of
 
 -- a draft of length 0 is no draft
 unfoldable pub draft_of : Option Part → Option Part
-draft_of = maybe none (λ c. if eqb c.size 0 then none else some c)
+draft_of = maybe none (λ c. when eqb c.size 0 then none else some c)
 
 -- why an FDT run is refused: its draft is bad, whether or not it would be taken
 unfoldable pub draft_refusal : Setup → Fdt → Option Part → Option Refusal
@@ -267,7 +267,7 @@ ran s now i d x =
 unfoldable pub fdt_ran : Setup → ℕ → Option Part → Desk → Result
 fdt_ran s now draft d =
     let r = fdt_run s now draft d.fdt in
-    (fdt_output r.taken r.packet, if r.taken then all_published (with_fdt d r.fdt) else with_fdt d r.fdt)
+    (fdt_output r.taken r.packet, when r.taken then all_published (with_fdt d r.fdt) else with_fdt d r.fdt)
 
 -- one call
 unfoldable pub step : Setup → Desk → Call → Result
@@ -275,7 +275,7 @@ step s d reserve = unless (reserve_refusal d) d (number d.next, reserved s d)
 step s d (release t) = unless (release_refusal d t) d (done, numbered d d.next (unloosed t d.loose))
 step s d (add named q) =
     unless (add_refusal s d named q) d
-    (number (toi_for d named), admitted s (toi_for d named) q (if given named then d else reserved s d))
+    (number (toi_for d named), admitted s (toi_for d named) q (when given named then d else reserved s d))
 step s d (touch t x) = (truth (given (listed_as d t)), touched t x d)
 step s d (ask q) = (answer_to d q, d)
 step s d complete = (done, record { complete = true; next = d.next; loose = d.loose; queue = d.queue; sessions = d.sessions; fdt = d.fdt })

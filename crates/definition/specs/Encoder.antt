@@ -1,7 +1,7 @@
 -- Encoder: the packets of one transfer, blocks interleaved over a window (src/sender/block.rs, blockencoder.rs).
 use Rattle.std.specs.Prelude.{Bool, true, false, not, ◌&&◌, ◌||◌, List, [], ◌∷◌, ◌++◌, ℕ, zero, suc, ◌+◌, ◌-◌, ◌*◌, min, eqb, ltb, leb, length, set}
 use Rattle.std.proofs.Math.Option.{Option, none, some}
-use Rattle.sizes.specs.Words.{if◌then◌else◌, maybe, all, at, cut}
+use Rattle.sizes.specs.Words.{when◌then◌else◌, maybe, all, at, cut}
 use Rattle.sizes.specs.Partition.{sbn, esi, blocks_of, symbols_in, first_symbol}
 use Rattle.sizes.specs.declared.partition.Sizes.{Sizes}
 use Rattle.sizes.specs.declared.numbers.Sbn.{Sbn}
@@ -58,12 +58,12 @@ fill w p x = let n = min (w - length x.window) (p.blocks - x.next.0) in record {
 
 -- an index past the end becomes 0
 unfoldable pub wrapped : Encoder → ℕ
-wrapped x = if ltb x.index (length x.window) then x.index else 0
+wrapped x = when ltb x.index (length x.window) then x.index else 0
 
 -- with no block open: an empty object has one packet, which closes; all else has been sent
 unfoldable pub emptied : Part → Encoder → Option Symbol × Encoder
 emptied c x =
-    if x.begun || not (eqb c.size 0) then (none, x)
+    when x.begun || not (eqb c.size 0) then (none, x)
     else (
       some record { block = sbn 0; symbol = esi 0; symbols = 0; payload = record { start = c.start; size = 0 }; transfer_length = 0; close = true },
       record { closable = x.closable; next = x.next; window = x.window; index = x.index; begun = true; stopped = x.stopped },
@@ -107,7 +107,7 @@ visit (suc k) w c z force x =
     let y = fill w p x in
     let i = wrapped y in
     let again = visit k w c z force (without y i) in
-    maybe (emptied c y) (λ o. if drained p o then again else (let y' = advanced y i o in (some (symbol_of c z force o y'), y'))) (at y.window i)
+    maybe (emptied c y) (λ o. when drained p o then again else (let y' = advanced y i o in (some (symbol_of c z force o y'), y'))) (at y.window i)
 
 -- a forced read is the last one
 unfoldable pub stopping : Bool → Encoder → Encoder
@@ -122,4 +122,4 @@ stopping force x = record {
 
 -- the next symbol of the transfer of content c, or none
 unfoldable pub read : ℕ → Part → Sizes → Bool → Encoder → Option Symbol × Encoder
-read w c z force x = if x.stopped then (none, x) else visit (suc (length x.window)) w c z force (stopping force x)
+read w c z force x = when x.stopped then (none, x) else visit (suc (length x.window)) w c z force (stopping force x)

@@ -1,7 +1,7 @@
 -- The FDT session: what it sends, and its run.
 use Rattle.std.specs.Prelude.{Bool, false, ◌||◌, ℕ}
 use Rattle.std.proofs.Math.Option.{Option, none, some}
-use Rattle.sizes.specs.Words.{if◌then◌else◌, given}
+use Rattle.sizes.specs.Words.{when◌then◌else◌, given}
 use Rattle.lifecycle.specs.declared.parts.Part.{Part}
 use Rattle.lifecycle.specs.Setup.{Setup}
 use Rattle.lifecycle.specs.Fdt.{FdtState, Instance, queued, next_fdt, fdt_done}
@@ -58,8 +58,8 @@ fdt_begun (some i) = some record { id = i.id; part = i.part; encoder = fresh fal
 -- what is in hand; with nothing in hand, the next FDT is asked for. A draft that was taken is not there any more
 unfoldable pub fdt_in_hand_or_next : Setup → ℕ → Option Part → Bool → Fdt → Bool × Fdt
 fdt_in_hand_or_next s now draft taken f =
-    if given f.hand then (taken, f)
-    else (let n = next_fdt s now (if taken then none else draft) f.state in (taken || n.taken, record { state = n.state; hand = fdt_begun n.starts }))
+    when given f.hand then (taken, f)
+    else (let n = next_fdt s now (when taken then none else draft) f.state in (taken || n.taken, record { state = n.state; hand = fdt_begun n.starts }))
 
 -- nothing without an FDT in hand; else read, never by force, and on none it is done
 unfoldable pub fdt_round_with : Setup → ℕ → Bool → FdtState → Option FdtHand → FdtRound

@@ -1,7 +1,7 @@
 -- The payload of a packet: a part of one of the two stores.
 use Rattle.std.proofs.Math.Option.{Option, none, some}
 use Rattle.std.specs.Prelude.{List, ℕ, length, take, drop}
-use Rattle.sizes.specs.Words.{if◌then◌else◌, maybe}
+use Rattle.sizes.specs.Words.{when◌then◌else◌, maybe}
 use Rattle.lifecycle.specs.Parts.{past_store}
 use Rattle.lifecycle.specs.declared.parts.Part.{Part}
 use Rattle.definition.specs.FdtSession.{Packet}
@@ -35,7 +35,7 @@ no_place = record { store = Store.objects; part = record { start = 0; size = 0 }
 unfoldable pub place_of : Stores → Option Packet → Place
 place_of m none = no_place
 place_of m (some k) =
-    if past_store (length (bytes_of m (store_of k))) k.symbol.payload then no_place
+    when past_store (length (bytes_of m (store_of k))) k.symbol.payload then no_place
     else record { store = store_of k; part = k.symbol.payload }
 
 -- the payload

@@ -1,7 +1,7 @@
 -- What is promised of the runs of a desk: statements only, proved in proofs/Refused, Rounds, FileRounds and Draft.
 use Rattle.std.specs.Prelude.{◌≡◌, Bool, true, false, List, ℕ, zero, suc, ◌+◌, ◌≤◌, length}
 use Rattle.std.proofs.Math.Option.{Option, none, some}
-use Rattle.sizes.specs.Words.{if◌then◌else◌, maybe, given, at}
+use Rattle.sizes.specs.Words.{when◌then◌else◌, maybe, given, at}
 use Rattle.lifecycle.specs.Fdt.{id_after}
 use Rattle.sizes.specs.declared.partition.Sizes.{Sizes}
 use Rattle.lifecycle.specs.declared.parts.Part.{Part}
@@ -22,7 +22,7 @@ RefusedStays = (s : Setup) (d : Desk) (c : Call) → given (refusal_in (step s d
 
 -- read, with n more visits allowed
 unfoldable pub read_longer : ℕ → ℕ → Part → Sizes → Bool → Encoder → Option Symbol × Encoder
-read_longer n w c z force x = if x.stopped then (none, x) else visit (suc (length x.window + n)) w c z force (stopping force x)
+read_longer n w c z force x = when x.stopped then (none, x) else visit (suc (length x.window + n)) w c z force (stopping force x)
 
 -- a read's visits are enough: with more it comes to the same, for every content, an empty one too, and every encoder
 abbrev pub VisitsEnough : Type 0
@@ -85,7 +85,7 @@ pub record Drafted (s : Setup) (now : ℕ) (f : Fdt) : Type 0 where
   -- and that packet is its own: it has the id that was next
   pub under_its_id : (draft : Option Part) → (fdt_run s now draft f).taken ≡ true → packet_id (fdt_run s now draft f).packet ≡ some f.state.next_id
   -- it is taken at most once, and the flag says whether: the next id is the one after, or the same
-  pub id_moves : (draft : Option Part) → (fdt_run s now draft f).fdt.state.next_id ≡ (if (fdt_run s now draft f).taken then id_after f.state.next_id else f.state.next_id)
+  pub id_moves : (draft : Option Part) → (fdt_run s now draft f).fdt.state.next_id ≡ (when (fdt_run s now draft f).taken then id_after f.state.next_id else f.state.next_id)
   -- no draft, no flag
   pub no_draft : (fdt_run s now none f).taken ≡ false
 

@@ -1,7 +1,7 @@
 -- Session: what a file session sends (src/sender/sendersession.rs). It owns the object that it has in hand; the queue owns the others.
 use Rattle.std.specs.Prelude.{Bool, true, not, ◌&&◌, List, [], ◌∷◌, ◌++◌, ℕ, eqb}
 use Rattle.std.proofs.Math.Option.{Option, none, some}
-use Rattle.sizes.specs.Words.{if◌then◌else◌, maybe, find, drop_first}
+use Rattle.sizes.specs.Words.{when◌then◌else◌, maybe, find, drop_first}
 use Rattle.sizes.specs.declared.partition.Sizes.{Sizes}
 use Rattle.lifecycle.specs.declared.parts.Part.{Part}
 use Rattle.lifecycle.specs.Lifecycle.{Plan, Life, Pace, started, finished, expired, is_last, may_start, may_stop, pace_of, paced, too_early}
@@ -50,7 +50,7 @@ begin now o = let x = started o.plan now o.life in record {
 unfoldable pub put_back : ℕ → Hand → List Object → List Object
 put_back now h q =
     let o = living (finished now h.object.life) h.object in
-    if h.listed && not (expired o.plan o.life) then q ++ (o ∷ []) else q
+    when h.listed && not (expired o.plan o.life) then q ++ (o ∷ []) else q
 
 -- is the transfer to be forced to its end: it may be stopped, and is not listed
 unfoldable pub forced : Hand → Bool
@@ -87,8 +87,8 @@ in_hand_or_next p now q none = elim (find (startable p now) q) [ none ↦ (none,
 -- with an object in hand: nothing while an FDT is queued, nothing before the due time; else read, and on none the object is done
 unfoldable pub round_with : Setup → ℕ → Bool → List Object → Hand → Round
 round_with s now fdt_queued q h =
-    if fdt_queued then over (idle q (some h))
-    else if too_early now h.pace then over (idle q (some h))
+    when fdt_queued then over (idle q (some h))
+    else when too_early now h.pace then over (idle q (some h))
     else (let r = read s.window h.object.part h.object.sizes (forced h) h.encoder in
     elim r.0 [ none ↦ again (put_back now h q) | some y ↦ over (sent q h r.1 y) ])
 

@@ -1,7 +1,7 @@
 -- Examples, computed from the definition: the bench sheet, four transfers and two runs. Proved in proofs/AllExamples.
 use Rattle.std.specs.Prelude.{◌≡◌, Bool, true, false, List, [], ◌∷◌, map, ℕ, zero, suc, ◌-◌, ◌^◌}
 use Rattle.std.proofs.Math.Option.{Option, none, some}
-use Rattle.sizes.specs.Words.{if◌then◌else◌, maybe, one_if}
+use Rattle.sizes.specs.Words.{when◌then◌else◌, maybe, one_if}
 use Rattle.sizes.specs.Refusals.{refusal_number}
 use Rattle.sizes.specs.Partition.{sbn, blocks_of, block_length}
 use Rattle.sizes.specs.declared.partition.Sizes.{Sizes}
@@ -131,12 +131,12 @@ pub data Told : Type 0 where
   draft : ℕ → ℕ → ℕ → ℕ → ℕ → Told  -- an FDT that this run took from its draft
 
 abbrev pub object_told : Packet → Told
-object_told k = if k.symbol.close
+object_told k = when k.symbol.close
     then last_obj k.toi k.symbol.block.0 k.symbol.symbol.0 k.symbol.payload.start k.symbol.payload.size
     else obj k.toi k.symbol.block.0 k.symbol.symbol.0 k.symbol.payload.start k.symbol.payload.size
 
 abbrev pub fdt_told : Bool → Packet → Told
-fdt_told taken k = if taken
+fdt_told taken k = when taken
     then draft (maybe 0 (λ i. i) k.id) k.symbol.block.0 k.symbol.symbol.0 k.symbol.payload.start k.symbol.payload.size
     else fdt (maybe 0 (λ i. i) k.id) k.symbol.block.0 k.symbol.symbol.0 k.symbol.payload.start k.symbol.payload.size
 
@@ -144,7 +144,7 @@ abbrev pub told : Answer → Told
 told (Answer.refused why) = refusal (refusal_number why)
 told (Answer.number t) = toi t
 told Answer.done = ok
-told (Answer.truth b) = if b then yes else no
+told (Answer.truth b) = when b then yes else no
 told (Answer.transferred none) = not_listed
 told (Answer.transferred (some n)) = sent_whole n
 told (Answer.fdt_output taken none) = nothing

@@ -1,7 +1,7 @@
 -- What holds of every desk that a run from an accepted set-up comes to. Read Total last: it collects the rest.
 use Rattle.std.specs.Prelude.{◌≡◌, true, false, List, [], ◌∷◌, map, ℕ, ◌≤◌, length}
 use Rattle.std.proofs.Math.Option.{Option, none, some}
-use Rattle.sizes.specs.Words.{if◌then◌else◌, maybe, has, times, Each}
+use Rattle.sizes.specs.Words.{when◌then◌else◌, maybe, has, times, Each}
 use Rattle.sizes.specs.Limits.{toi_entries, object_slots, waiting_fdts, longest_store}
 use Rattle.sizes.specs.Toi.{Toi}
 use Rattle.lifecycle.specs.Parts.{part_end, shares}
@@ -57,7 +57,7 @@ pub data Among : List Object → Object → Type 0 where
 
 -- the objects that adds admitted, latest first, after one more call
 abbrev pub grown : Setup → Desk → Call → List Object → List Object
-grown s d c j = maybe j (λ x. if accepted (step s d c).0 then made s (toi_for d x.0) x.1 ∷ j else j) (adding c)
+grown s d c j = maybe j (λ x. when accepted (step s d c).0 then made s (toi_for d x.0) x.1 ∷ j else j) (adding c)
 
 -- the same, after a run
 unfoldable pub came : Setup → Desk → List Call → List Object → List Object

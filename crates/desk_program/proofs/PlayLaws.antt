@@ -1,5 +1,8 @@
 -- Laws on what commands ask of a sender.
 use Rattle.sizes.specs.declared.refusal.Refusal.TheVariants as Because
+use Rattle.sizes.specs.declared.numbers.Sbn.{Sbn}
+use Rattle.wire.specs.declared.record.Record.{Record}
+use Rattle.wire.specs.declared.record.Reading.{Reading}
 use mathlib.Core.Path.{◌≡◌, refl, subst, sym, ◌∙◌, ap}
 use mathlib.Core.Bool.{Bool, true, false, not, true≢false}
 use mathlib.Core.List.{List, [], ◌∷◌}
@@ -108,33 +111,34 @@ stays_as {c} {d} {r} {y} e h = record { stays = λ z f. let q : y ≡ z = cc in 
 pub stays_none : {c : Command} {d r : Desk} → alone c ≡ none → Stays c d r
 stays_none e = record { stays = λ y f. clash (cc) }
 
--- the places of the calls
-abbrev pub calls : List ℕ
-calls = 4 ∷ 5 ∷ 6 ∷ 7 ∷ 8 ∷ 9 ∷ 10 ∷ 11 ∷ 12 ∷ 13 ∷ 14 ∷ 15 ∷ []
-
-pub not_alone : (c : Command) → OneOf calls (tag_of the_type c) → alone c ≡ none
-not_alone CommandV.Skip h = absurd (miss calls 0 tt h)
-not_alone CommandV.Wrong h = refl
-not_alone (CommandV.Setup x) h = refl
-not_alone CommandV.SetupOut h = refl
-not_alone CommandV.Reserve h = refl
-not_alone (CommandV.Release t) h = refl
-not_alone (CommandV.Add o named) h = refl
-not_alone CommandV.AddNowhere h = refl
-not_alone (CommandV.Remove t) h = refl
-not_alone (CommandV.Trigger t start) h = refl
-not_alone (CommandV.Publish clock part) h = refl
-not_alone CommandV.Complete h = refl
-not_alone (CommandV.Listed t) h = refl
-not_alone (CommandV.Transfers t) h = refl
-not_alone (CommandV.RunFdt clock draft) h = refl
-not_alone (CommandV.Run i clock) h = refl
-not_alone (CommandV.Partition l e b) h = absurd (miss calls 16 tt h)
-not_alone (CommandV.BlockLength l e b k) h = absurd (miss calls 17 tt h)
-not_alone (CommandV.RawLength large small larges l e k) h = absurd (miss calls 18 tt h)
-not_alone (CommandV.Drain l e b w) h = absurd (miss calls 19 tt h)
-not_alone (CommandV.WriteRecord r room) h = absurd (miss calls 20 tt h)
-not_alone (CommandV.ReadRecord a) h = absurd (miss calls 21 tt h)
+-- a command that is none of those that need no sender
+pub not_alone : (c : Command) → (c ≡ CommandV.Skip → ⊥) → ((l e b : ℕ) → c ≡ CommandV.Partition l e b → ⊥)
+    → ((l e b : ℕ) (k : Sbn) → c ≡ CommandV.BlockLength l e b k → ⊥)
+    → ((large small larges l e : ℕ) (k : Sbn) → c ≡ CommandV.RawLength large small larges l e k → ⊥)
+    → ((l e b w : ℕ) → c ≡ CommandV.Drain l e b w → ⊥) → ((r : Record) (room : ℕ) → c ≡ CommandV.WriteRecord r room → ⊥)
+    → ((a : Reading) → c ≡ CommandV.ReadRecord a → ⊥) → alone c ≡ none
+not_alone CommandV.Skip h1 h2 h3 h4 h5 h6 h7 = absurd (h1 refl)
+not_alone CommandV.Wrong h1 h2 h3 h4 h5 h6 h7 = refl
+not_alone (CommandV.Setup x) h1 h2 h3 h4 h5 h6 h7 = refl
+not_alone CommandV.SetupOut h1 h2 h3 h4 h5 h6 h7 = refl
+not_alone CommandV.Reserve h1 h2 h3 h4 h5 h6 h7 = refl
+not_alone (CommandV.Release t) h1 h2 h3 h4 h5 h6 h7 = refl
+not_alone (CommandV.Add o named) h1 h2 h3 h4 h5 h6 h7 = refl
+not_alone CommandV.AddNowhere h1 h2 h3 h4 h5 h6 h7 = refl
+not_alone (CommandV.Remove t) h1 h2 h3 h4 h5 h6 h7 = refl
+not_alone (CommandV.Trigger t start) h1 h2 h3 h4 h5 h6 h7 = refl
+not_alone (CommandV.Publish clock part) h1 h2 h3 h4 h5 h6 h7 = refl
+not_alone CommandV.Complete h1 h2 h3 h4 h5 h6 h7 = refl
+not_alone (CommandV.Listed t) h1 h2 h3 h4 h5 h6 h7 = refl
+not_alone (CommandV.Transfers t) h1 h2 h3 h4 h5 h6 h7 = refl
+not_alone (CommandV.RunFdt clock draft) h1 h2 h3 h4 h5 h6 h7 = refl
+not_alone (CommandV.Run i clock) h1 h2 h3 h4 h5 h6 h7 = refl
+not_alone (CommandV.Partition l e b) h1 h2 h3 h4 h5 h6 h7 = absurd (h2 l e b refl)
+not_alone (CommandV.BlockLength l e b k) h1 h2 h3 h4 h5 h6 h7 = absurd (h3 l e b k refl)
+not_alone (CommandV.RawLength large small larges l e k) h1 h2 h3 h4 h5 h6 h7 = absurd (h4 large small larges l e k refl)
+not_alone (CommandV.Drain l e b w) h1 h2 h3 h4 h5 h6 h7 = absurd (h5 l e b w refl)
+not_alone (CommandV.WriteRecord r room) h1 h2 h3 h4 h5 h6 h7 = absurd (h6 r room refl)
+not_alone (CommandV.ReadRecord a) h1 h2 h3 h4 h5 h6 h7 = absurd (h7 a refl)
 
 -- a command is not one at another place
 pub elsewhere : (ks : List ℕ) (c k : Command) → OneOf ks (tag_of the_type c) → T (not (has_key ks (tag_of the_type k))) → c ≡ k → ⊥
@@ -163,3 +167,8 @@ no_set_up ks c h one two three =
       out = λ f. absurd (elsewhere ks c CommandV.SetupOut h three f);
       wrong = λ f. absurd (elsewhere ks c CommandV.Wrong h one f);
     }
+
+-- a command that is not one of these three
+pub not_set_up : {c : Command} {d r : Desk} → ((x : Opening) → c ≡ CommandV.Setup x → ⊥) → (c ≡ CommandV.SetupOut → ⊥) → (c ≡ CommandV.Wrong → ⊥)
+    → SetUpAnswers c d r
+not_set_up one two three = record { begun = λ y f. absurd (one y f); out = λ f. absurd (two f); wrong = λ f. absurd (three f) }

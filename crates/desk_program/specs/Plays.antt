@@ -2,7 +2,7 @@
 use Rattle.sizes.specs.declared.refusal.Refusal.TheVariants as Because
 use Rattle.std.specs.Prelude.{◌≡◌, Bool, true, false, ℕ}
 use Rattle.std.proofs.Math.Option.{Option, none, some}
-use Rattle.sizes.specs.Words.{if◌then◌else◌}
+use Rattle.sizes.specs.Words.{when◌then◌else◌}
 use Rattle.sizes.specs.Partition.{partition_of, block_length, sizes_given}
 use Rattle.lifecycle.specs.FileDesc.{time_of}
 use Rattle.lifecycle.specs.Announce.{draft_given}
@@ -103,7 +103,7 @@ pub record Calls (c : Command) (s : Sender) (r : Desk) : Type 0 where
 -- of a set-up: the definition's answer, and its desk
 pub record SetsUp (z : Setup) (r : Desk) : Type 0 where
   pub says : Says (set_up_said r.«open») r.reply
-  pub means : Def.set_up (setup_said z) ≡ (if r.«open» then (Def.Answer.done, some (desk_of r.sender)) else (Def.Answer.refused Because.SetUp, none))
+  pub means : Def.set_up (setup_said z) ≡ (when r.«open» then (Def.Answer.done, some (desk_of r.sender)) else (Def.Answer.refused Because.SetUp, none))
   pub valid : ValidSender r.sender
 
 -- no set-up is accepted
@@ -117,7 +117,7 @@ pub record Answers (c : Command) (d r : Desk) : Type 0 where
   pub valid : ValidSender r.sender
   pub played : (k : Def.Call) → call_of c ≡ some k → d.«open» ≡ true → PlaysCall k d.sender r
   pub shut : (k : Def.Call) → call_of c ≡ some k → d.«open» ≡ false → r ≡ reply_with false d.sender ReplyV.Error
-  pub nowhere : c ≡ CommandV.AddNowhere → r ≡ (if d.«open» then reply_with true d.sender (ReplyV.Refused Because.NoPriority) else reply_with false d.sender ReplyV.Error)
+  pub nowhere : c ≡ CommandV.AddNowhere → r ≡ (when d.«open» then reply_with true d.sender (ReplyV.Refused Because.NoPriority) else reply_with false d.sender ReplyV.Error)
 
 -- the reply to a command that needs no sender: an empty line or a comment, a partition, a block's length, a transfer's lines, a record
 abbrev pub alone : Command → Option Reply

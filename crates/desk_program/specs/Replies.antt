@@ -1,7 +1,7 @@
 -- What a reply says, as the definition's answer.
 use Rattle.std.specs.Prelude.{◌≡◌, Bool, true, false, ℕ}
 use Rattle.std.proofs.Math.Option.{Option, none, some}
-use Rattle.sizes.specs.Words.{if◌then◌else◌}
+use Rattle.sizes.specs.Words.{when◌then◌else◌}
 use Rattle.sizes.specs.declared.refusal.Refusal.TheVariants as Because
 use Rattle.lifecycle.specs.FdtCalls.{transfers_said}
 use Rattle.lifecycle.specs.declared.fdt.Transfers.{Transfers}
@@ -39,7 +39,7 @@ abbrev pub Says : Def.Answer → Reply → Type 0
 Says a r = reply_said r ≡ some a
 
 abbrev pub set_up_said : Bool → Def.Answer
-set_up_said ok = if ok then Def.Answer.done else Def.Answer.refused Because.SetUp
+set_up_said ok = when ok then Def.Answer.done else Def.Answer.refused Because.SetUp
 
 abbrev pub truth_said : Bool → Def.Answer
 truth_said b = Def.Answer.truth b
@@ -51,7 +51,7 @@ length_shown (some n) = ReplyV.Number n
 
 -- the reply to a command that writes a record: the record, if it can be written
 abbrev pub record_shown : Record → ℕ → Reply
-record_shown r room = if room_for room r then ReplyV.Written r room else ReplyV.Refused Because.Record
+record_shown r room = when room_for room r then ReplyV.Written r room else ReplyV.Refused Because.Record
 
 -- the reply to one that reads a record
 abbrev pub reading_shown : Reading → Reply

@@ -1,15 +1,15 @@
 -- The bytes of the two stores, and the checksum.
 use Rattle.std.specs.Prelude.{◌≡◌, Bool, List, [], ◌∷◌, ℕ, ◌+◌, ◌*◌, ◌/◌, ◌%◌, ◌<◌, length, get_or}
-use Rattle.sizes.specs.Words.{if◌then◌else◌}
+use Rattle.sizes.specs.Words.{when◌then◌else◌}
 use Rattle.lifecycle.specs.declared.parts.Part.{Part}
 
 -- byte i of the FDT store, or of the object store
 unfoldable pub byte_at : Bool → ℕ → ℕ
-byte_at is_fdt i = if is_fdt then (83 * i + 29 * (i / 241) + 7) % 128 else (167 * i + 59 * (i / 251) + 13) % 256
+byte_at is_fdt i = when is_fdt then (83 * i + 29 * (i / 241) + 7) % 128 else (167 * i + 59 * (i / 251) + 13) % 256
 
 -- after how many bytes a store repeats itself
 unfoldable pub period_of : Bool → ℕ
-period_of is_fdt = if is_fdt then 241 * 128 else 251 * 256
+period_of is_fdt = when is_fdt then 241 * 128 else 251 * 256
 
 -- a part with the same bytes, near the front
 unfoldable pub nearer_of : Bool → Part → Part

@@ -1,35 +1,35 @@
 // The text of a reply.
 use crate::reply::Reply;
 use crate::store::payload_sum;
-use libc::STDOUT_FILENO;
 use sender::blockencoder::Symbol;
 use sender::sender::Packet;
 use sizes::partition::Partition;
 use sizes::refusal::number_of;
+use std::io::Write;
 
 // Writes the answer to a line; nothing where it has none.
-pub fn write_reply<'a>(objects: &'a [u8], fdts: &'a [u8], reply: Reply) {
+pub fn write_reply<'a, W: Write>(to: &mut W, objects: &'a [u8], fdts: &'a [u8], reply: Reply) {
     match reply {
         Reply::Silent => {}
-        Reply::Drained { l, e, b, w } => write_drained(l, e, b, w),
-        _ => write_line(objects, fdts, reply),
+        Reply::Drained { l, e, b, w } => write_drained(to, l, e, b, w),
+        _ => write_line(to, objects, fdts, reply),
     }
 }
 
 // The lines of a transfer, then `end`; or `refused`.
-fn write_drained(l: u64, e: u64, b: u64, w: u64) {
-    if drain_program::write_lines(l, e, b, w) {
-        io::write_all(STDOUT_FILENO, b"end\n");
+fn write_drained<W: Write>(to: &mut W, l: u64, e: u64, b: u64, w: u64) {
+    if drain_program::write_lines(to, l, e, b, w) {
+        text::write_all(to, b"end\n");
     }
 }
 
 // An answer of one line.
-fn write_line<'a>(objects: &'a [u8], fdts: &'a [u8], reply: Reply) {
+fn write_line<'a, W: Write>(to: &mut W, objects: &'a [u8], fdts: &'a [u8], reply: Reply) {
     let mut space = [0u8; 512];
     let out: &mut [u8] = &mut space;
     let at = put_reply(out, objects, fdts, reply);
     let end = text::put_text(out, at, b"\n");
-    io::write_all(STDOUT_FILENO, text::part(out, 0, end));
+    text::write_all(to, text::part(out, 0, end));
 }
 
 // A reply that is one word.

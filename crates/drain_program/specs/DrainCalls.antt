@@ -1,6 +1,6 @@
 -- One transfer sent once, line by line: what is refused, and what a line says.
 use Rattle.std.specs.Prelude.{◌≡◌, Bool, true, false, not, ◌||◌, ℕ, ◌-◌, ltb}
-use Rattle.sizes.specs.Words.{if◌then◌else◌, maybe, within}
+use Rattle.sizes.specs.Words.{when◌then◌else◌, maybe, within}
 use Rattle.sizes.specs.Limits.{largest_window, longest_store}
 use Rattle.lifecycle.specs.Setup.{bad_blocks}
 use Rattle.definition.specs.Encoder as Def
@@ -19,7 +19,7 @@ drain_refuses l e b w = not (within 1 largest_window w) || (ltb longest_store l 
 -- a transfer of l bytes that stand at the store's start; it is the object's only one, so it closes
 abbrev pub drain_begun : ℕ → ℕ → ℕ → ℕ → Begun
 drain_begun l e b w =
-    if drain_refuses l e b w then record { ok = false; encoder = new_of (record { start = 0; size = 0 }) (record { e = 1; b = 1 }) 1 true }
+    when drain_refuses l e b w then record { ok = false; encoder = new_of (record { start = 0; size = 0 }) (record { e = 1; b = 1 }) 1 true }
     else record { ok = true; encoder = new_of (record { start = 0; size = l }) (record { e = e; b = b }) w true }
 
 pub record DrainBegins (l e b w : ℕ) (r : Begun) : Type 0 where

@@ -2,6 +2,7 @@
 //
 // No packet is kept. The text of its line goes into a buffer, which is written whenever the next line may not fit.
 #![tactic(auto)]
+
 mod drain;
 
 ghost use Rattle.std.specs.Prelude.{◌+◌, ◌≤◌, length};
@@ -10,33 +11,33 @@ ghost use Rattle.text.specs.Put.{Appended};
 ghost use Rattle.drain_program.specs.Lines.{field, line_text, most_field, most_line};
 
 use crate::drain::Line;
-use libc::STDOUT_FILENO;
 use sender::blockencoder::BlockEncoder;
+use std::io::Write;
 use text::Field;
 
 // Writes the answer to one line.
-pub fn answer(line: &[u8]) {
+pub fn answer<W: Write>(to: &mut W, line: &[u8]) {
     let Four::Numbers { l, e, b, w } = read_four(line) else {
-        refuse();
+        refuse(to);
         return;
     };
-    write_lines(l, e, b, w);
+    write_lines(to, l, e, b, w);
 }
 
 // Writes the lines of a transfer with these numbers and answers true; or writes `refused`, where they are not
 // admitted, and answers false.
-pub fn write_lines(l: u64, e: u64, b: u64, w: u64) -> bool {
+pub fn write_lines<W: Write>(to: &mut W, l: u64, e: u64, b: u64, w: u64) -> bool {
     let begun = drain::begin(l, e, b, w);
     if !begun.ok {
-        refuse();
+        refuse(to);
         return false;
     }
-    send(begun.encoder);
+    send(to, begun.encoder);
     true
 }
 
-fn refuse() {
-    io::write_all(STDOUT_FILENO, b"refused\n");
+fn refuse<W: Write>(to: &mut W) {
+    text::write_all(to, b"refused\n");
 }
 
 // The four numbers of a line, or that it has something else.
@@ -70,10 +71,10 @@ fn read_four(line: &[u8]) -> Four {
 
 // Writes the lines of a transfer. The turns are counted down, from a number that no run uses up, since a proved loop
 // has to end.
-fn send(x: BlockEncoder)
+fn send<W: Write>(to: &mut W, x: BlockEncoder)
     requires { ValidEncoder x }
 {
-    let mut space = io::large_buffer();
+    let mut space = [0u8; 65536];
     let out: &mut [u8] = &mut space;
     let mut used = 0;
     let mut encoder = x;
@@ -84,12 +85,12 @@ fn send(x: BlockEncoder)
         if is_over(line) {
             break;
         }
-        used = make_room(out, used);
+        used = make_room(to, out, used);
         used = put_line(out, used, line);
         encoder = next.encoder;
         turns -= 1;
     }
-    io::write_all(STDOUT_FILENO, text::part(out, 0, used));
+    text::write_all(to, text::part(out, 0, used));
 }
 
 fn is_over(line: Line) -> bool {
@@ -100,12 +101,12 @@ fn is_over(line: Line) -> bool {
 const MOST_LINE: usize = 126;
 
 // Writes the first `used` bytes of out if another line may not fit behind them, and answers how many are still in use.
-fn make_room(out: &[u8], used: usize) -> usize
+fn make_room<W: Write>(to: &mut W, out: &[u8], used: usize) -> usize
     requires { (used ≤ length out.now) × (most_line ≤ length out.now) }
     ensures { result + most_line ≤ length out.now }
 {
     if out.len() - used < MOST_LINE {
-        io::write_all(STDOUT_FILENO, text::part(out, 0, used));
+        text::write_all(to, text::part(out, 0, used));
         return 0;
     }
     used

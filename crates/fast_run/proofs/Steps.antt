@@ -5,7 +5,7 @@ use Prim.Native.Nat.{ℕ, ◌+◌, ◌<◌}
 use native.Mathlib.Omega.{arith}
 use lib.Dec.{eqb, ltb}
 use borrow.Author.Tests.{eqb-true, eq-eqb, not-true}
-use Rattle.sizes.specs.Words.{if◌then◌else◌}
+use Rattle.sizes.specs.Words.{when◌then◌else◌}
 use Rattle.sizes.specs.Limits.{wide}
 use Rattle.sizes.specs.Partition.{esi}
 use Rattle.sizes.proofs.Tests.{and_left, and_right}
@@ -61,13 +61,13 @@ unfolding is_due
 due_by w now t x a b c = rw (eq-eqb w 0 a, b, c)
 
 -- a tick changes only the due time
-due_if : (p : Pace) (d : ℕ) (b : Bool) → p.paced ≡ b → (if b then record { paced = true; due = d; tick = p.tick } else p) ≡ record { paced = p.paced; due = (if b then record { paced = true; due = d; tick = p.tick } else p).due; tick = p.tick }
+due_if : (p : Pace) (d : ℕ) (b : Bool) → p.paced ≡ b → (when b then record { paced = true; due = d; tick = p.tick } else p) ≡ record { paced = p.paced; due = (when b then record { paced = true; due = d; tick = p.tick } else p).due; tick = p.tick }
 due_if p d true e = ap (λ (b : Bool). record { paced = b; due = d; tick = p.tick }) (sym e)
 due_if p d false e = refl
 
 due_only : (p : Pace) → ticked_of p ≡ record { paced = p.paced; due = (ticked_of p).due; tick = p.tick }
 unfolding ticked_of
-due_only p = due_if p (if ltb (p.due + p.tick) wide then p.due + p.tick else p.due) p.paced refl
+due_only p = due_if p (when ltb (p.due + p.tick) wide then p.due + p.tick else p.due) p.paced refl
 
 -- a read in the middle of a transfer changes only two numbers
 moved_only : (e : BlockEncoder) (v : Visit) → Steps e v → moved_of e v ≡ with_index (with_esi e v.place (esi (v.symbol.esi.0 + 1))) (v.place + 1)

@@ -1,6 +1,6 @@
 -- A packet in the middle of a transfer: only numbers of the session change.
 use Rattle.std.specs.Prelude.{◌≡◌, Bool, true, false, not, ◌&&◌, ℕ, ◌+◌, ◌<◌, eqb, set}
-use Rattle.sizes.specs.Words.{if◌then◌else◌}
+use Rattle.sizes.specs.Words.{when◌then◌else◌}
 use Rattle.sizes.specs.Limits.{largest_window}
 use Rattle.sizes.specs.Partition.{esi}
 use Rattle.sizes.specs.declared.numbers.Esi.{Esi}
@@ -33,7 +33,7 @@ numbers_by toi x (GlanceV.One v) = record { done = true; place = v.place; esi = 
 numbers_by toi x GlanceV.Other = no_numbers
 
 unfoldable pub numbers_of : ℕ → ℕ → Slot → SenderSession → Numbers
-numbers_of waiting now t x = if is_due waiting now t x then numbers_by t.file.toi x (glance_of x.encoder) else no_numbers
+numbers_of waiting now t x = when is_due waiting now t x then numbers_by t.file.toi x (glance_of x.encoder) else no_numbers
 
 -- the encoder with another next symbol of the block at p; with another index
 abbrev pub with_esi : BlockEncoder → ℕ → Esi → BlockEncoder

@@ -1,6 +1,6 @@
 -- A run of a file session that changes nothing but the session: what it comes to, from the session, the slot in its hand and how many FDTs wait.
 use Rattle.std.specs.Prelude.{◌≡◌, Bool, true, false, not, ℕ, eqb}
-use Rattle.sizes.specs.Words.{if◌then◌else◌}
+use Rattle.sizes.specs.Words.{when◌then◌else◌}
 use Rattle.lifecycle.specs.declared.slots.Slot.{Slot}
 use Rattle.sender.specs.EncoderCalls.{ValidEncoder}
 use Rattle.sender.specs.SessionCalls.{forced_slot, served_of}
@@ -30,5 +30,5 @@ settled_by x toi y (Sent s) = settled_as true (answer_of false toi 0 (Sent s)) y
 -- nor is the run of a session with nothing in hand
 unfoldable pub settled_of : ℕ → ℕ → Slot → SenderSession → Settled
 settled_of waiting now t x =
-    if x.busy then (let r = served_of (forced_slot t) (not (eqb waiting 0)) now x in settled_by x t.file.toi r.session r.answer)
+    when x.busy then (let r = served_of (forced_slot t) (not (eqb waiting 0)) now x in settled_by x t.file.toi r.session r.answer)
     else settled_as false RunV.Nothing x

@@ -1,5 +1,6 @@
 // A run of a file session that changes nothing but the session: from the session, the slot in its hand and how many FDTs wait.
 #![tactic(auto)]
+
 pub mod quick;
 
 ghost use Rattle.std.specs.Prelude.{◌≡◌, true, false};

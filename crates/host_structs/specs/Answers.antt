@@ -1,6 +1,6 @@
 -- What the host is told: an answer by its numbers. A refusal has its number of the table; 0 is none.
 use Rattle.std.specs.Prelude.{Bool, true, false, ℕ}
-use Rattle.sizes.specs.Words.{if◌then◌else◌}
+use Rattle.sizes.specs.Words.{when◌then◌else◌}
 use Rattle.sizes.specs.Refusals.{refusal_number}
 use Rattle.sizes.specs.declared.refusal.Refusal.TheVariants as Because
 use Rattle.sizes.specs.Partition.{sbn, esi}
@@ -47,7 +47,7 @@ transfers_told (TransfersV.Total n) = record { listed = true; total = n }
 transfers_told TransfersV.NotListed = record { listed = false; total = 0 }
 
 unfoldable pub open_told : Bool → ℕ
-open_told ok = if ok then 0 else refusal_number Because.SetUp
+open_told ok = when ok then 0 else refusal_number Because.SetUp
 
 -- a run without a packet: zeros stand for it
 abbrev pub not_sent : ℕ → Bool → Sent

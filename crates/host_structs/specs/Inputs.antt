@@ -1,6 +1,6 @@
 -- What the host names by numbers and plain structs.
 use Rattle.std.specs.Prelude.{Bool, ℕ}
-use Rattle.sizes.specs.Words.{if◌then◌else◌}
+use Rattle.sizes.specs.Words.{when◌then◌else◌}
 use Rattle.sizes.specs.declared.partition.Sizes.{Sizes}
 use Rattle.lifecycle.specs.declared.filedesc.Plan.{Plan}
 use Rattle.lifecycle.specs.declared.filedesc.Carousel.{Carousel}
@@ -19,13 +19,13 @@ use Rattle.host_structs.specs.declared.inputs.PlainObject.{PlainObject}
 use Rattle.host_structs.specs.declared.inputs.PlainSetup.{PlainSetup}
 
 unfoldable pub carousel_in : Plan → Carousel
-carousel_in x = if x.repeats then (if x.from_start then CarouselV.Interval x.interval else CarouselV.Delay x.interval) else CarouselV.Never
+carousel_in x = when x.repeats then (when x.from_start then CarouselV.Interval x.interval else CarouselV.Delay x.interval) else CarouselV.Never
 
 unfoldable pub target_in : Plan → Target
-target_in x = if x.paced then (if x.by_time then TargetV.By x.target else TargetV.Within x.target) else TargetV.AtOnce
+target_in x = when x.paced then (when x.by_time then TargetV.By x.target else TargetV.Within x.target) else TargetV.AtOnce
 
 unfoldable pub own_in : Bool → Sizes → Own
-own_in own z = if own then OwnV.Sizes z else OwnV.SetUp
+own_in own z = when own then OwnV.Sizes z else OwnV.SetUp
 
 abbrev pub object_in : PlainObject → Object
 object_in o = record {
@@ -40,10 +40,10 @@ object_in o = record {
 }
 
 unfoldable pub named_in : PlainObject → Named
-named_in o = if o.named then NamedV.Toi o.toi else NamedV.Anew
+named_in o = when o.named then NamedV.Toi o.toi else NamedV.Anew
 
 unfoldable pub fdt_carousel_in : Bool → ℕ → FdtCarousel
-fdt_carousel_in from_start interval = if from_start then FdtCarouselV.Interval interval else FdtCarouselV.Delay interval
+fdt_carousel_in from_start interval = when from_start then FdtCarouselV.Interval interval else FdtCarouselV.Delay interval
 
 abbrev pub setup_in : PlainSetup → Setup
 setup_in z = record {

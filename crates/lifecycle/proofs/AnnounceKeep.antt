@@ -9,7 +9,7 @@ use lib.Dec.{eqb}
 use lib.ListN.{get_or, set}
 use lib.Seq.{get_or-set_same, get_or-set_other}
 use borrow.Author.Tests.{eqb-true, eqb-false}
-use Rattle.sizes.specs.Words.{if◌then◌else◌, given}
+use Rattle.sizes.specs.Words.{when◌then◌else◌, given}
 use Rattle.sizes.specs.Limits.{waiting_fdts}
 use Rattle.sizes.proofs.Tests.{Tested, pass, fail, tested, and_left, or_left, if_on}
 use Rattle.sizes.proofs.Arrays.{getD_shut}
@@ -56,7 +56,7 @@ objects_on a b = record {
 
 -- a draft that was taken marks every listed object
 abbrev pub marked_slots : Bool → List Slot → List Slot
-marked_slots taken t = if taken then map published_slot t else t
+marked_slots taken t = when taken then map published_slot t else t
 
 -- the next FDT
 module _ (now : ℕ) (draft : Draft) (f : Fdt) where
@@ -86,7 +86,7 @@ module _ (now : ℕ) (draft : Draft) (f : Fdt) where
   unfolding next_fdt_of
   next_fdt_slots = by side_next.taken
     where
-      by : (b : Bool) → (if b then with_published f side_next.announcer else with_announcer f side_next.announcer).slots ≡ marked_slots b f.slots
+      by : (b : Bool) → (when b then with_published f side_next.announcer else with_announcer f side_next.announcer).slots ≡ marked_slots b f.slots
       by true = refl
       by false = refl
 

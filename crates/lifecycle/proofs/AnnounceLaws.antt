@@ -11,7 +11,7 @@ use lib.Dec.{eqb, ltb, leb}
 use lib.ListN.{length, get_or, take, set, length-set, replicate, length-map}
 use lib.Seq.{get_or-set_same, get_or-set_other, take-suc-set, length-take-le}
 use borrow.Author.Tests.{lt-ltb, le-ltb, eqb-true, eqb-false}
-use Rattle.sizes.specs.Words.{if◌then◌else◌, maybe, given, collect, any, cut, shut}
+use Rattle.sizes.specs.Words.{when◌then◌else◌, maybe, given, collect, any, cut, shut}
 use Rattle.sizes.specs.Limits.{waiting_fdts, largest_fdt_id}
 use Rattle.sizes.proofs.Tests.{Tested, pass, fail, tested, and_left}
 use Rattle.sizes.proofs.Lists.{map_append}
@@ -35,7 +35,7 @@ use Rattle.lifecycle.specs.declared.announce.Draft.TheVariants.{Given, Missing}
 -- ---- the plan and the validity
 
 -- the plan of every FDT, as the code has it, is the definition's, with the carousel that the flags name
-pub plan_said : (s : Setup) (start : Bool) (d : ℕ) → s.carousel ≡ (if start then Carousel.interval d else Carousel.delay d) → plan_of (fdt_plan_of start d) ≡ fdt_plan s
+pub plan_said : (s : Setup) (start : Bool) (d : ℕ) → s.carousel ≡ (when start then Carousel.interval d else Carousel.delay d) → plan_of (fdt_plan_of start d) ≡ fdt_plan s
 plan_said s start d e = rw e
 
 -- a validity of at most 10 seconds, of at most 30, above 30
@@ -61,7 +61,7 @@ needed_empty validity now a e =
 
 -- ---- words
 
-given_if : {A : Type 0} (b : Bool) (x : A) → given (if b then some x else none) ≡ b
+given_if : {A : Type 0} (b : Bool) (x : A) → given (when b then some x else none) ≡ b
 given_if true x = refl
 given_if false x = refl
 
@@ -166,8 +166,8 @@ module _ (a : Announcer) (v : ValidAnnouncer a) where
   valid_done now = go (tested a.has_current)
     where
       go : Tested a.has_current → ValidAnnouncer (current_done now a)
-      go (pass e) = subst (λ b. ValidAnnouncer (if b then holding a (done_instance now a.current) else a)) (sym e) (valid_holding (done_instance now a.current) e)
-      go (fail e) = subst (λ b. ValidAnnouncer (if b then holding a (done_instance now a.current) else a)) (sym e) v
+      go (pass e) = subst (λ b. ValidAnnouncer (when b then holding a (done_instance now a.current) else a)) (sym e) (valid_holding (done_instance now a.current) e)
+      go (fail e) = subst (λ b. ValidAnnouncer (when b then holding a (done_instance now a.current) else a)) (sym e) v
 
 pub valid_next : (a : Announcer) → ValidAnnouncer a → (r : Plan) (validity now : ℕ) (draft : Draft) → ValidAnnouncer (next_of r validity now draft a).announcer
 unfolding next_of
@@ -256,8 +256,8 @@ pub state_done : (now : ℕ) (a : Announcer) → state_of (current_done now a) �
 unfolding current_done
 state_done now a = go (tested a.has_current)
   where
-    step : (b : Bool) → a.has_current ≡ b → state_of (current_done now a) ≡ state_of (if b then holding a (done_instance now a.current) else a)
-    step b e = ap (λ b. state_of (if b then holding a (done_instance now a.current) else a)) e
+    step : (b : Bool) → a.has_current ≡ b → state_of (current_done now a) ≡ state_of (when b then holding a (done_instance now a.current) else a)
+    step b e = ap (λ b. state_of (when b then holding a (done_instance now a.current) else a)) e
 
     go : Tested a.has_current → state_of (current_done now a) ≡ fdt_done now (state_of a)
     go (fail e) = step false e ∙ sym (done_none (state_of a) now (current_none a e))
@@ -275,7 +275,7 @@ starts_said s r now taken a p = go (tested a.has_current) (tested (may_start (pl
     may = may_start (plan_of r) now (life_of a.current.life)
 
     pick : Bool → NextInstance
-    pick b = if b then record { taken = taken; starts = true; announcer = holding a (started_instance r now a.current) } else record { taken = taken; starts = false; announcer = a }
+    pick b = when b then record { taken = taken; starts = true; announcer = holding a (started_instance r now a.current) } else record { taken = taken; starts = false; announcer = a }
 
     stays : next_told (pick false) ≡ record { taken = taken; state = state_of a; starts = none }
     stays = refl
@@ -388,7 +388,7 @@ module _ (a : Announcer) (v : ValidAnnouncer a) (s : Setup) (r : Plan) (validity
   next_state = ap (λ (x : Def.Next). x.state) (next_said a v s r validity now draft e p)
 
   -- what starts is given exactly where the code says so, and is the new current one
-  pub next_starts : (if (next_of r validity now draft a).starts then some (instance_of (next_of r validity now draft a).announcer.current) else none)
+  pub next_starts : (when (next_of r validity now draft a).starts then some (instance_of (next_of r validity now draft a).announcer.current) else none)
       ≡ (next_fdt s now (draft_given draft) (state_of a)).starts
   unfolding next_told
   next_starts = ap (λ (x : Def.Next). x.starts) (next_said a v s r validity now draft e p)
@@ -400,7 +400,7 @@ module _ (c : Part) where
   parts_shared [] m = refl
   parts_shared (i ∷ l) m = ap (λ b. shares c i.part || b) (parts_shared l m) ∙ or_assoc (shares c i.part) (any (held_of c) l) (any (shares c) m)
 
-  last_shared : (b : Bool) (i : Instance) → any (shares c) (maybe [] (λ (i : Def.Instance). i.part ∷ []) (if b then some (instance_of i) else none)) ≡ (b && held_of c i)
+  last_shared : (b : Bool) (i : Instance) → any (shares c) (maybe [] (λ (i : Def.Instance). i.part ∷ []) (when b then some (instance_of i) else none)) ≡ (b && held_of c i)
   last_shared false i = refl
   last_shared true i = or_false (shares c i.part)
 

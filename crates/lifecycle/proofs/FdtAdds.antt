@@ -6,7 +6,7 @@ use mathlib.Core.List.{[], ◌∷◌, ◌++◌}
 use Prim.Native.Nat.{ℕ}
 use lib.Dec.{ltb}
 use borrow.Author.Tests.{ltb-true}
-use Rattle.sizes.specs.Words.{if◌then◌else◌, maybe, given, has, place, first_of}
+use Rattle.sizes.specs.Words.{when◌then◌else◌, maybe, given, has, place, first_of}
 use Rattle.sizes.specs.declared.refusal.Refusal.{Refusal}
 use Rattle.sizes.specs.declared.refusal.Refusal.TheVariants as Because
 use Rattle.sizes.specs.Limits.{toi_entries}
@@ -80,7 +80,7 @@ added_view f v q named =
 
 -- ---- refusals 3 to 7, in their order
 
-refused_first : (n : Refusal) (b : Bool) (x y : Added) {o : Option Refusal} → refusal x.answer ≡ some n → refusal y.answer ≡ o → refusal (if b then x else y).answer ≡ (if b then some n else o)
+refused_first : (n : Refusal) (b : Bool) (x y : Added) {o : Option Refusal} → refusal x.answer ≡ some n → refusal y.answer ≡ o → refusal (when b then x else y).answer ≡ (when b then some n else o)
 refused_first n true x y e h = e
 refused_first n false x y e h = h
 
@@ -90,7 +90,7 @@ module _ (f : Fdt) (q : Request) where
   refused_numbered z (NamedV.Toi t) = go (has t (Alloc.loose f.tois)) (place is_free f.slots)
     where
       go : (b : Bool) (o : Option ℕ)
-          → refusal (if b then maybe (refuses f Because.Full) (λ k. record { answer = AdmissionV.Toi t; fdt = put_of (with_tois f (Alloc.claimed_of t f.tois).allocator) k t q z }) o else refuses f Because.NotLoose).answer
+          → refusal (when b then maybe (refuses f Because.Full) (λ k. record { answer = AdmissionV.Toi t; fdt = put_of (with_tois f (Alloc.claimed_of t f.tois).allocator) k t q z }) o else refuses f Because.NotLoose).answer
           ≡ first_of ((Because.NotLoose, not b) ∷ (Because.Full, not (given o)) ∷ [])
       go true none = refl
       go true (some k) = refl
@@ -98,7 +98,7 @@ module _ (f : Fdt) (q : Request) where
   refused_numbered z NamedV.Anew = go (ltb f.tois.entered toi_entries) (place is_free f.slots)
     where
       go : (b : Bool) (o : Option ℕ)
-          → refusal (maybe (refuses f Because.Full) (λ k. if b then record { answer = AdmissionV.Toi f.tois.next; fdt = put_of (with_tois f (Alloc.allocated_of false f.tois).allocator) k f.tois.next q z } else refuses f Because.Full) o).answer
+          → refusal (maybe (refuses f Because.Full) (λ k. when b then record { answer = AdmissionV.Toi f.tois.next; fdt = put_of (with_tois f (Alloc.allocated_of false f.tois).allocator) k f.tois.next q z } else refuses f Because.Full) o).answer
           ≡ first_of ((Because.NotLoose, false) ∷ (Because.Full, not (given o) || not b) ∷ [])
       go b none = refl
       go true (some k) = refl

@@ -9,7 +9,7 @@ use lib.Dec.{eqb}
 use borrow.Author.Tests.{eqb-true, eq-eqb}
 use lib.ListN.{set}
 use lib.Seq.{get_or-set_same}
-use Rattle.sizes.specs.Words.{if◌then◌else◌, maybe, over, given, keep, find, at, cut, place, one_if, times, Counts}
+use Rattle.sizes.specs.Words.{when◌then◌else◌, maybe, over, given, keep, find, at, cut, place, one_if, times, Counts}
 use Rattle.sizes.specs.Allocator as Alloc
 use Rattle.sizes.proofs.Tests.{and_left, and_right, if_on, maybe_on}
 use Rattle.sizes.proofs.Lists.{Sought, hit, miss, sought, found_none, at_get, any_map, map_cut}
@@ -200,7 +200,7 @@ given_none (some a) e = absurd (true≢false e)
 -- a search of two lists, one after the other
 find_append : {A : Type 0} (ok : A → Bool) (a b : List A) → find ok (a ++ b) ≡ maybe (find ok b) some (find ok a)
 find_append ok [] b = refl
-find_append ok (x ∷ a) b = elim (ok x) as (λ y. (if y then some x else find ok (a ++ b)) ≡ maybe (find ok b) some (if y then some x else find ok a))
+find_append ok (x ∷ a) b = elim (ok x) as (λ y. (when y then some x else find ok (a ++ b)) ≡ maybe (find ok b) some (when y then some x else find ok a))
     [ true ↦ refl | false ↦ find_append ok a b ]
 
 -- the only number of a list that passes is found
@@ -225,7 +225,7 @@ find_listed t s (k ∷ l) = go (slot_at s k).listed (eqb (file_at s k).toi t) re
     ok o = eqb o.toi t
 
     go : (a b : Bool) → eqb (file_at s k).toi t ≡ b → find ok (listed_files s l) ≡ over (file_at s) (find (λ k. is_listed_as t (slot_at s k)) l)
-        → find ok (maybe (listed_files s l) (λ o. o ∷ listed_files s l) (if a then some (file_at s k) else none)) ≡ over (file_at s) (if a && b then some k else find (λ k. is_listed_as t (slot_at s k)) l)
+        → find ok (maybe (listed_files s l) (λ o. o ∷ listed_files s l) (when a then some (file_at s k) else none)) ≡ over (file_at s) (when a && b then some k else find (λ k. is_listed_as t (slot_at s k)) l)
     go false b e r = r
     go true true e r = rw e
     go true false e r = rw e r
@@ -250,7 +250,7 @@ module _ (t : ℕ) (f : Fdt) (v : ValidFdt f) where
       (λ j u h. own k li j (waiting_used f v j u) h))
 
   -- it is the one in the slot that is found, if that waits
-  pub find_view : find (λ (o : FileDesc). eqb o.toi t) (files f) ≡ maybe none (λ k. if sends (slot_at f.slots k) then none else some (file_at f.slots k)) (listed_place t f)
+  pub find_view : find (λ (o : FileDesc). eqb o.toi t) (files f) ≡ maybe none (λ k. when sends (slot_at f.slots k) then none else some (file_at f.slots k)) (listed_place t f)
   unfolding is_toi
   find_view = maybe_on (λ o. find is_toi (files f) ≡ o) (listed_place t f)
       (λ e. find_none (none_waits t f v e))
@@ -263,14 +263,14 @@ module _ (t : ℕ) (f : Fdt) (v : ValidFdt f) where
       (λ n q. find_own k n li (queue_place f v k n q))))
 
   -- the listed slot in transfer with the number is the one that is found, if that is in transfer
-  pub find_sent : find (λ (y : Slot). sends y && is_listed_as t y) f.slots ≡ maybe none (λ k. if sends (slot_at f.slots k) then some (slot_at f.slots k) else none) (listed_place t f)
+  pub find_sent : find (λ (y : Slot). sends y && is_listed_as t y) f.slots ≡ maybe none (λ k. when sends (slot_at f.slots k) then some (slot_at f.slots k) else none) (listed_place t f)
   unfolding is_listed_as
   find_sent = go (sought sent_as f.slots)
     where
       sent_as : Slot → Bool
       sent_as y = sends y && is_listed_as t y
 
-      go : Sought sent_as f.slots → find sent_as f.slots ≡ maybe none (λ k. if sends (slot_at f.slots k) then some (slot_at f.slots k) else none) (listed_place t f)
+      go : Sought sent_as f.slots → find sent_as f.slots ≡ maybe none (λ k. when sends (slot_at f.slots k) then some (slot_at f.slots k) else none) (listed_place t f)
       go (hit m x h) = (
           let y = slot_at f.slots m in
           let a = (at_get no_slot f.slots m x h.stands).0 in
@@ -281,7 +281,7 @@ module _ (t : ℕ) (f : Fdt) (v : ValidFdt f) where
           (λ e. absurd (false≢true (sym (none_listed t f e m) ∙ g)))
           (λ k e.
           let q = own k (listed_at t f k e) m (used_sends y s) (and_right y.listed (eqb y.file.toi t) g) in
-          subst (λ j. some y ≡ (if sends (slot_at f.slots j) then some (slot_at f.slots j) else none)) q (rw s)))
+          subst (λ j. some y ≡ (when sends (slot_at f.slots j) then some (slot_at f.slots j) else none)) q (rw s)))
       go (miss p u) = (found_none sent_as f.slots p).0 ∙ maybe_on (λ (z : Option Slot). none ≡ z) (listed_place t f) (λ e. refl) (λ k e.
           let y = slot_at f.slots k in
           let li = listed_at t f k e in
@@ -298,14 +298,14 @@ module _ (t : ℕ) (f : Fdt) (v : ValidFdt f) where
   transfers_view = both (listed_place t f) ∙ (λ i. maybe (over (λ (y : Slot). y.file.life.total) (sym find_sent i)) (λ (o : FileDesc). some (life_of o.life).total) (sym find_view i))
     where
       both : (o : Option ℕ) → maybe none (λ k. some (slot_at f.slots k).file.life.total) o ≡ maybe
-          (over (λ (y : Slot). y.file.life.total) (maybe none (λ k. if sends (slot_at f.slots k) then some (slot_at f.slots k) else none) o))
+          (over (λ (y : Slot). y.file.life.total) (maybe none (λ k. when sends (slot_at f.slots k) then some (slot_at f.slots k) else none) o))
           (λ (o : FileDesc). some (life_of o.life).total)
-          (maybe none (λ k. if sends (slot_at f.slots k) then none else some (file_at f.slots k)) o)
+          (maybe none (λ k. when sends (slot_at f.slots k) then none else some (file_at f.slots k)) o)
       both none = refl
       both (some k) = elim (sends (slot_at f.slots k)) as (λ b. some (slot_at f.slots k).file.life.total ≡ maybe
-          (over (λ (y : Slot). y.file.life.total) (if b then some (slot_at f.slots k) else none))
+          (over (λ (y : Slot). y.file.life.total) (when b then some (slot_at f.slots k) else none))
           (λ (o : FileDesc). some (life_of o.life).total)
-          (if b then none else some (file_at f.slots k))) [ true ↦ refl | false ↦ refl ]
+          (when b then none else some (file_at f.slots k))) [ true ↦ refl | false ↦ refl ]
 
   -- with any list that has each slot in transfer once: the listed objects are those that wait, then the listed ones of that list
   module _ (l : List ℕ) (c : Counts no_slot sends f.slots l) where
@@ -322,14 +322,14 @@ module _ (t : ℕ) (f : Fdt) (v : ValidFdt f) where
         in_list : (j : ℕ) → 1 ≤ times j l → sends (slot_at f.slots j) ≡ true
         in_list j u = one_true (sends (slot_at f.slots j)) (let a = c j in omega arith)
 
-        found : (k : ℕ) → Listed t f k → (b : Bool) → sends (slot_at f.slots k) ≡ b → maybe (over (file_at f.slots) (find ok l)) some (if b then none else some (file_at f.slots k)) ≡ some (file_at f.slots k)
+        found : (k : ℕ) → Listed t f k → (b : Bool) → sends (slot_at f.slots k) ≡ b → maybe (over (file_at f.slots) (find ok l)) some (when b then none else some (file_at f.slots k)) ≡ some (file_at f.slots k)
         found k li true s = ap (over (file_at f.slots))
             (find_only ok l k (let a = c k in let b = ap one_if s in omega arith) (λ i. li.is_listed i && eq-eqb (file_at f.slots k).toi t li.number i)
             (λ j u h. let y = slot_at f.slots j in own k li j (used_sends y (in_list j u)) (and_right y.listed (eqb y.file.toi t) h)))
         found k li false s = refl
 
         go : (o : Option ℕ) → listed_place t f ≡ o
-            → maybe (over (file_at f.slots) (find ok l)) some (maybe none (λ k. if sends (slot_at f.slots k) then none else some (file_at f.slots k)) o) ≡ over (file_at f.slots) o
+            → maybe (over (file_at f.slots) (find ok l)) some (maybe none (λ k. when sends (slot_at f.slots k) then none else some (file_at f.slots k)) o) ≡ over (file_at f.slots) o
         go none e = ap (over (file_at f.slots)) (find_nothing ok l (none_listed t f e))
         go (some k) e = found k (listed_at t f k e) (sends (slot_at f.slots k)) refl
 

@@ -10,7 +10,7 @@ use lib.Dec.{eqb}
 use borrow.Author.Tests.{eqb-true, not-true, eq-eqb}
 use lib.ListN.{length, set, get_or, take, length-set, length-take}
 use lib.Seq.{get_or-set_other, get_or-take, take-suc-set}
-use Rattle.sizes.specs.Words.{if◌then◌else◌, at, cut, place, shut, one_if, times, Counts}
+use Rattle.sizes.specs.Words.{when◌then◌else◌, at, cut, place, shut, one_if, times, Counts}
 use Rattle.sizes.specs.Limits.{object_slots}
 use Rattle.sizes.specs.Allocator as Alloc
 use Rattle.sizes.specs.declared.toiallocator.ToiAllocator.{ToiAllocator}
@@ -37,7 +37,7 @@ or_yes false b e = e
 
 -- the number that a slot holds
 abbrev pub toi_in : Slot → Option ℕ
-toi_in v = if used v then some v.file.toi else none
+toi_in v = when used v then some v.file.toi else none
 
 pub toi_used : (v : Slot) → used v ≡ true → toi_in v ≡ some v.file.toi
 toi_used v e = rw e

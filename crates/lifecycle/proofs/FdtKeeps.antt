@@ -7,7 +7,7 @@ use Prim.Native.Nat.{ℕ, zero, suc, ◌<◌}
 use lib.Dec.{eqb, ltb, leb}
 use lib.ListN.{replicate}
 use borrow.Author.Tests.{leb-false}
-use Rattle.sizes.specs.Words.{if◌then◌else◌, maybe, given, has, place, first_of}
+use Rattle.sizes.specs.Words.{when◌then◌else◌, maybe, given, has, place, first_of}
 use Rattle.sizes.specs.Limits.{object_slots, toi_entries, waiting_fdts}
 use Rattle.sizes.specs.declared.refusal.Refusal.{Refusal}
 use Rattle.sizes.specs.declared.refusal.Refusal.TheVariants as Because
@@ -158,7 +158,7 @@ is_added_as t f = refl
 -- a listed slot is marked: its object is published, and all else of it stays
 pub record MarksSlot (y z : Slot) : Type 0 where
   pub listed : z.listed ≡ y.listed
-  pub file : z.file ≡ (if y.listed then published_file y.file else y.file)
+  pub file : z.file ≡ (when y.listed then published_file y.file else y.file)
   pub sent : sends z ≡ sends y
   pub part : z.file.part ≡ y.file.part
   pub sizes : z.file.sizes ≡ y.file.sizes
@@ -167,9 +167,9 @@ pub marks_slot : (y : Slot) → MarksSlot y (published_slot y)
 unfolding published_slot
 marks_slot y = by y.listed refl
   where
-    by : (b : Bool) → y.listed ≡ b → MarksSlot y (if b then record { holders = y.holders; listed = y.listed; file = published_file y.file } else y)
-    by true e = record { listed = refl; file = sym (ap (λ b. if b then published_file y.file else y.file) e); sent = refl; part = refl; sizes = refl }
-    by false e = record { listed = refl; file = sym (ap (λ b. if b then published_file y.file else y.file) e); sent = refl; part = refl; sizes = refl }
+    by : (b : Bool) → y.listed ≡ b → MarksSlot y (when b then record { holders = y.holders; listed = y.listed; file = published_file y.file } else y)
+    by true e = record { listed = refl; file = sym (ap (λ b. when b then published_file y.file else y.file) e); sent = refl; part = refl; sizes = refl }
+    by false e = record { listed = refl; file = sym (ap (λ b. when b then published_file y.file else y.file) e); sent = refl; part = refl; sizes = refl }
 
 module _ (c : Part) (f : Fdt) where
   -- refusals 4, 5 and 7 in their order
@@ -209,7 +209,7 @@ module _ (c : Part) (f : Fdt) where
   unfolding publish_of
   publish_as now = by (bad_blocks f.settings.sizes c.size) (bad_fdt_of f.settings.fdt_store c f.announcer || eqb c.size 0) (leb waiting_fdts f.announcer.waiting)
     where
-      by : (x y z : Bool) → (if x then published_by now (some Because.Sizes) else if y then published_by now (some Because.Part) else if z then published_by now (some Because.Full) else published_by now none)
+      by : (x y z : Bool) → (when x then published_by now (some Because.Sizes) else when y then published_by now (some Because.Part) else when z then published_by now (some Because.Full) else published_by now none)
           ≡ published_by now (first_of ((Because.Sizes, x) ∷ (Because.Part, y) ∷ (Because.Full, z) ∷ []))
       by true y z = refl
       by false true z = refl
@@ -224,12 +224,12 @@ queued_current now c a = refl
 -- ---- a draft
 
 -- one of length 0 is none
-pub real_given : (draft : Draft) → draft_given (real_draft draft) ≡ maybe none (λ (c : Part). if eqb c.size 0 then none else some c) (draft_given draft)
+pub real_given : (draft : Draft) → draft_given (real_draft draft) ≡ maybe none (λ (c : Part). when eqb c.size 0 then none else some c) (draft_given draft)
 unfolding real_draft
 real_given DraftV.Missing = refl
 real_given (DraftV.Given c) = by (eqb c.size 0)
   where
-    by : (b : Bool) → draft_given (if b then DraftV.Missing else DraftV.Given c) ≡ (if b then none else some c)
+    by : (b : Bool) → draft_given (when b then DraftV.Missing else DraftV.Given c) ≡ (when b then none else some c)
     by true = refl
     by false = refl
 

@@ -7,7 +7,7 @@ use Prim.Native.Nat.{ℕ, ◌<◌}
 use lib.Dec.{eqb, ltb}
 use lib.ListN.{length, get_or}
 use Rattle.sizes.specs.declared.refusal.Refusal.{Refusal}
-use Rattle.sizes.specs.Words.{if◌then◌else◌, maybe, given, collect, keep, cut, has, place, times}
+use Rattle.sizes.specs.Words.{when◌then◌else◌, maybe, given, collect, keep, cut, has, place, times}
 use Rattle.sizes.specs.Limits.{toi_entries}
 use Rattle.sizes.specs.Allocator as Alloc
 use Rattle.sizes.proofs.Lists.{Hit}
@@ -60,7 +60,7 @@ pub record Listed (t : ℕ) (f : Fdt) (k : ℕ) : Type 0 where
 
 -- the listed objects in the slots of a list
 abbrev pub listed_files : List Slot → List ℕ → List FileDesc
-listed_files s = collect (λ k. if (slot_at s k).listed then some (file_at s k) else none)
+listed_files s = collect (λ k. when (slot_at s k).listed then some (file_at s k) else none)
 
 -- ---- a change
 
@@ -151,7 +151,7 @@ pub record ListRemoves (t : ℕ) (f r : Fdt) : Type 0 where
 
 -- the object, reset if it has the number
 abbrev pub reset_file : ℕ → Time → FileDesc → FileDesc
-reset_file t start o = if eqb o.toi t then with_life o (reset_life start o.life) else o
+reset_file t start o = when eqb o.toi t then with_life o (reset_life start o.life) else o
 
 -- the object that waits with the number is reset; what is in transfer stays as it was
 pub record Triggers (t : ℕ) (start : Time) (f r : Fdt) : Type 0 where

@@ -9,7 +9,7 @@ use lib.Dec.{eqb}
 use borrow.Author.Tests.{eqb-true, eq-eqb, ne_eqb}
 use lib.ListN.{length, set, get_or, length-set, get_or-map}
 use lib.Seq.{get_or-set_same}
-use Rattle.sizes.specs.Words.{if◌then◌else◌, given, over, at, cut, place, shut, one_if, times}
+use Rattle.sizes.specs.Words.{when◌then◌else◌, given, over, at, cut, place, shut, one_if, times}
 use Rattle.sizes.specs.Allocator as Alloc
 use Rattle.sizes.specs.declared.toiallocator.ToiAllocator.{ToiAllocator}
 use Rattle.sizes.proofs.Tests.{Tested, pass, fail, tested, and_left, none≢some, if_on, maybe_on}
@@ -45,7 +45,7 @@ map_two g f h l u = map_in g (λ k. h (f k)) l u ∙ through l
 
 pub place_map : {A B : Type 0} (ok : B → Bool) (f : A → B) (l : List A) → place ok (map f l) ≡ place (λ a. ok (f a)) l
 place_map ok f [] = refl
-place_map ok f (a ∷ l) = ap (λ o. if ok (f a) then some 0 else over suc o) (place_map ok f l)
+place_map ok f (a ∷ l) = ap (λ o. when ok (f a) then some 0 else over suc o) (place_map ok f l)
 
 -- what a search for a slot number, or for a slot, did not find
 pub not_in : (k : ℕ) (l : List ℕ) → place (λ j. eqb j k) l ≡ none → times k l ≡ 0

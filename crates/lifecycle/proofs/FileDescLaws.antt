@@ -11,7 +11,7 @@ use Rattle.sizes.proofs.Tests.{Tested, pass, fail, tested}
 use Rattle.lifecycle.specs.Lifecycle.{repeats, is_last}
 use Rattle.lifecycle.specs.Lifecycle as Def
 use Rattle.lifecycle.specs.FileDesc.{time_of, target_of, plan_of, life_of, pace_said, carousel_named, target_named, started_life, done_life, published_life, reset_life, plan_named, with_carousel, with_target, no_pace, duration_of, pace_at, ticked_of}
-use Rattle.sizes.specs.Words.{if◌then◌else◌, maybe, given}
+use Rattle.sizes.specs.Words.{when◌then◌else◌, maybe, given}
 use Rattle.sizes.specs.Limits.{wide}
 use Rattle.lifecycle.specs.declared.filedesc.Pace.{Pace}
 use Rattle.lifecycle.specs.declared.filedesc.Time.{Time}
@@ -24,7 +24,7 @@ use Rattle.lifecycle.specs.declared.filedesc.Life.{Life}
 
 -- the flag says whether there is a carousel
 repeats_flag : (r : Plan) → repeats (plan_of r) ≡ r.repeats
-repeats_flag r = elim r.repeats as (λ b. given (if b then some (if r.from_start then Def.Carousel.interval r.interval else Def.Carousel.delay r.interval) else none) ≡ b) [ true ↦ refl | false ↦ refl ]
+repeats_flag r = elim r.repeats as (λ b. given (when b then some (when r.from_start then Def.Carousel.interval r.interval else Def.Carousel.delay r.interval) else none) ≡ b) [ true ↦ refl | false ↦ refl ]
 
 pub repeats_said : (r : Plan) → not (repeats (plan_of r)) ≡ not r.repeats
 repeats_said r = ap not (repeats_flag r)
@@ -54,18 +54,18 @@ start_said t now = go (tested t.known) (tested (ltb now t.at))
 module _ (p : Pace) where
   pub ticked_none : p.paced ≡ false → p ≡ ticked_of p
   unfolding ticked_of
-  ticked_none e = sym (ap (λ b. if b then record { paced = true; due = if ltb (p.due + p.tick) wide then p.due + p.tick else p.due; tick = p.tick } else p) e)
+  ticked_none e = sym (ap (λ b. when b then record { paced = true; due = when ltb (p.due + p.tick) wide then p.due + p.tick else p.due; tick = p.tick } else p) e)
 
   module _ (e : p.paced ≡ true) where
-    ticked_some : ticked_of p ≡ record { paced = true; due = if ltb (p.due + p.tick) wide then p.due + p.tick else p.due; tick = p.tick }
+    ticked_some : ticked_of p ≡ record { paced = true; due = when ltb (p.due + p.tick) wide then p.due + p.tick else p.due; tick = p.tick }
     unfolding ticked_of
-    ticked_some = ap (λ b. if b then record { paced = true; due = if ltb (p.due + p.tick) wide then p.due + p.tick else p.due; tick = p.tick } else p) e
+    ticked_some = ap (λ b. when b then record { paced = true; due = when ltb (p.due + p.tick) wide then p.due + p.tick else p.due; tick = p.tick } else p) e
 
     pub ticked_past : wide ≤ p.due + p.tick → p ≡ ticked_of p
-    ticked_past h = sym (ticked_some ∙ ap (λ b. record { paced = true; due = if b then p.due + p.tick else p.due; tick = p.tick }) (le-ltb (p.due + p.tick) wide h) ∙ sym (λ i. record { paced = e i; due = p.due; tick = p.tick }))
+    ticked_past h = sym (ticked_some ∙ ap (λ b. record { paced = true; due = when b then p.due + p.tick else p.due; tick = p.tick }) (le-ltb (p.due + p.tick) wide h) ∙ sym (λ i. record { paced = e i; due = p.due; tick = p.tick }))
 
     pub ticked_on : p.due + p.tick < wide → record { paced = p.paced; due = p.due + p.tick; tick = p.tick } ≡ ticked_of p
-    ticked_on h = sym (ticked_some ∙ ap (λ b. record { paced = true; due = if b then p.due + p.tick else p.due; tick = p.tick }) (lt-ltb (p.due + p.tick) wide h) ∙ sym (λ i. record { paced = e i; due = p.due + p.tick; tick = p.tick }))
+    ticked_on h = sym (ticked_some ∙ ap (λ b. record { paced = true; due = when b then p.due + p.tick else p.due; tick = p.tick }) (lt-ltb (p.due + p.tick) wide h) ∙ sym (λ i. record { paced = e i; due = p.due + p.tick; tick = p.tick }))
 
 -- ---- what each function is in the definition's words
 
@@ -78,7 +78,7 @@ and_comm false false = refl
 pub life_started : (r : Plan) (now : ℕ) (x : Life) → life_of (started_life r now x) ≡ Def.started (plan_of r) now (life_of x)
 unfolding started_life Def.started
 life_started r now x =
-    ap (λ b. record { published = x.published; count = if b then 0 else x.count; total = x.total; last_start = some now; last_end = time_of x.last_end; named_start = time_of x.named_start })
+    ap (λ b. record { published = x.published; count = when b then 0 else x.count; total = x.total; last_start = some now; last_end = time_of x.last_end; named_start = time_of x.named_start })
     (and_comm r.repeats (eqb x.count r.most) ∙ ap (λ b. eqb x.count r.most && b) (sym (repeats_flag r)))
 
 pub life_done : (now : ℕ) (x : Life) → life_of (done_life now x) ≡ Def.finished now (life_of x)
@@ -93,7 +93,7 @@ pub life_reset : (t : Time) (x : Life) → life_of (reset_life t x) ≡ Def.trig
 unfolding reset_life Def.triggered
 life_reset t x = ap (λ f. record { published = x.published; count = x.count; total = x.total; last_start = none; last_end = none; named_start = f }) (start t.known)
   where
-    start : (b : Bool) → time_of (if b then record { known = b; at = t.at } else x.named_start) ≡ maybe (time_of x.named_start) some (if b then some t.at else none)
+    start : (b : Bool) → time_of (when b then record { known = b; at = t.at } else x.named_start) ≡ maybe (time_of x.named_start) some (when b then some t.at else none)
     start true = refl
     start false = refl
 
@@ -117,7 +117,7 @@ unfolding pace_at
 pace_view r now l e = go (tested r.paced) (tested r.by_time)
   where
     go : Tested r.paced → Tested r.by_time
-        → pace_said (if r.paced then record { paced = true; due = now; tick = Def.tick_of (duration_of r now) l e } else no_pace) ≡ Def.pace_of (target_of r) now l e
+        → pace_said (when r.paced then record { paced = true; due = now; tick = Def.tick_of (duration_of r now) l e } else no_pace) ≡ Def.pace_of (target_of r) now l e
     go (fail p) b = rw p
     go (pass p) (pass b) = rw (p, b)
     go (pass p) (fail b) = rw (p, b)
@@ -127,6 +127,6 @@ unfolding ticked_of Def.paced
 ticked_view p = go (tested p.paced)
   where
     go : Tested p.paced
-        → pace_said (if p.paced then record { paced = true; due = if ltb (p.due + p.tick) wide then p.due + p.tick else p.due; tick = p.tick } else p) ≡ maybe none (λ c. some (Def.paced c)) (pace_said p)
+        → pace_said (when p.paced then record { paced = true; due = when ltb (p.due + p.tick) wide then p.due + p.tick else p.due; tick = p.tick } else p) ≡ maybe none (λ c. some (Def.paced c)) (pace_said p)
     go (fail e) = rw e
     go (pass e) = rw e

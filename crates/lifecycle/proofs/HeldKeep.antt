@@ -7,7 +7,7 @@ use Prim.Native.Nat.{ℕ, ◌+◌, ◌≤◌}
 use lib.Dec.{eqb}
 use lib.ListN.{set}
 use lib.Seq.{get_or-set_same}
-use Rattle.sizes.specs.Words.{if◌then◌else◌, first_of, any}
+use Rattle.sizes.specs.Words.{when◌then◌else◌, first_of, any}
 use Rattle.sizes.specs.declared.refusal.Refusal.{Refusal}
 use Rattle.sizes.specs.declared.refusal.Refusal.TheVariants as Because
 use Rattle.sizes.specs.declared.partition.Sizes.{Sizes}
@@ -138,7 +138,7 @@ module _ (P : FileDesc → Type 0) (lives : (o : FileDesc) (x : Life) → P o �
     pub added_held : ValidFdt f → ((t : ℕ) → bad_blocks z q.part.size ≡ false → bad_part_of f q.part ≡ false → P (new_slot q z t).file) → EachHeld P (added_of f q named).fdt
     added_held v new = by (added_of f q named) (refusal_view f q named) (added_view f v q named)
       where
-        first_none : (n : Refusal) (b : Bool) {o : Option Refusal} → none ≡ (if b then some n else o) → (b ≡ false) × (none ≡ o)
+        first_none : (n : Refusal) (b : Bool) {o : Option Refusal} → none ≡ (when b then some n else o) → (b ≡ false) × (none ≡ o)
         first_none n true e = absurd (none≢some e)
         first_none n false e = (refl, e)
 

@@ -5,7 +5,7 @@ use mathlib.Core.Option.{Option, none, some}
 use mathlib.Core.List.{[], map}
 use Prim.Native.Nat.{ℕ, ◌<◌, ◌≤◌}
 use borrow.Author.Tests.{lt-ltb}
-use Rattle.sizes.specs.Words.{if◌then◌else◌}
+use Rattle.sizes.specs.Words.{when◌then◌else◌}
 use Rattle.sizes.specs.Limits.{waiting_fdts, largest_fdt_id}
 use Rattle.sizes.specs.declared.refusal.Refusal.{Refusal}
 use Rattle.sizes.specs.Allocator as Alloc
@@ -40,15 +40,15 @@ module _ (now : ℕ) (draft : Draft) (f : Fdt) (r : Plan) (n : NextInstance)
     (planned : r ≡ fdt_plan_of f.settings.from_start f.settings.interval) (asked : n ≡ next_of r f.settings.validity now draft f.announcer) where
   -- what the answer is for a next FDT
   abbrev told : NextInstance → NextFdt
-  told m = record { taken = m.taken; starts = m.starts; fdt = if m.taken then with_published f m.announcer else with_announcer f m.announcer }
+  told m = record { taken = m.taken; starts = m.starts; fdt = when m.taken then with_published f m.announcer else with_announcer f m.announcer }
 
   is_next : told n ≡ next_fdt_of now draft f
   unfolding next_fdt_of
   is_next = ap told (asked ∙ ap (λ q. next_of q f.settings.validity now draft f.announcer) planned)
 
   as_flag : (b : Bool) → n.taken ≡ b
-      → record { taken = b; starts = n.starts; fdt = if b then with_published f n.announcer else with_announcer f n.announcer } ≡ told n
-  as_flag b e = ap (λ b. record { taken = b; starts = n.starts; fdt = if b then with_published f n.announcer else with_announcer f n.announcer }) (sym e)
+      → record { taken = b; starts = n.starts; fdt = when b then with_published f n.announcer else with_announcer f n.announcer } ≡ told n
+  as_flag b e = ap (λ b. record { taken = b; starts = n.starts; fdt = when b then with_published f n.announcer else with_announcer f n.announcer }) (sym e)
 
   pub next_taken_by : n.taken ≡ true → record { taken = true; starts = n.starts; fdt = with_published f n.announcer } ≡ next_fdt_of now draft f
   next_taken_by e = as_flag true e ∙ is_next

@@ -1,7 +1,7 @@
 -- The FDT side as the code has it: what its records mean, and what each function makes of them.
 use Rattle.std.specs.Prelude.{◌≡◌, Bool, true, false, not, ◌&&◌, ◌||◌, List, map, ℕ, ◌+◌, ◌-◌, ◌≤◌, ◌<◌, eqb, ltb, length, get_or, take, set, replicate}
 use Rattle.std.proofs.Math.Option.{Option, none, some}
-use Rattle.sizes.specs.Words.{if◌then◌else◌, maybe, given, any, shut}
+use Rattle.sizes.specs.Words.{when◌then◌else◌, maybe, given, any, shut}
 use Rattle.sizes.specs.Limits.{waiting_fdts, largest_fdt_id}
 use Rattle.lifecycle.specs.Parts.{shares, past_store}
 use Rattle.lifecycle.specs.Lifecycle.{may_start}
@@ -31,7 +31,7 @@ state_of a = record {
   next_id = a.fdtid;
   last = time_of a.last_publish;
   waiting = map instance_of (waiting_of a);
-  current = if a.has_current then some (instance_of a.current) else none;
+  current = when a.has_current then some (instance_of a.current) else none;
 }
 
 -- a draft may be missing
@@ -41,7 +41,7 @@ draft_given Missing = none
 
 -- what an answer says; the FDT that starts is the new current one
 unfoldable pub next_told : NextInstance → Def.Next
-next_told r = record { taken = r.taken; state = state_of r.announcer; starts = if r.starts then some (instance_of r.announcer.current) else none }
+next_told r = record { taken = r.taken; state = state_of r.announcer; starts = when r.starts then some (instance_of r.announcer.current) else none }
 
 -- ---- what holds of it at any time
 
@@ -88,11 +88,11 @@ queued_of now c a = record {
 
 -- the same; where the queue is full, nothing changes
 unfoldable pub published_of : ℕ → Part → Announcer → Announcer
-published_of now c a = if ltb a.waiting waiting_fdts then queued_of now c a else a
+published_of now c a = when ltb a.waiting waiting_fdts then queued_of now c a else a
 
 -- the front of the queue, if any, becomes current
 unfoldable pub front_of : Announcer → Announcer
-front_of a = if eqb a.waiting 0 then a else record {
+front_of a = when eqb a.waiting 0 then a else record {
   fdtid = a.fdtid;
   last_publish = a.last_publish;
   queue = shut no_instance a.queue 0;
@@ -115,13 +115,13 @@ holding a i = record { fdtid = a.fdtid; last_publish = a.last_publish; queue = a
 -- start the current one if it may
 unfoldable pub start_of : Plan → ℕ → Bool → Announcer → NextInstance
 start_of r now taken a =
-    if a.has_current && may_start (plan_of r) now (life_of a.current.life)
+    when a.has_current && may_start (plan_of r) now (life_of a.current.life)
     then record { taken = taken; starts = true; announcer = holding a (started_instance r now a.current) }
     else record { taken = taken; starts = false; announcer = a }
 
 -- republish: without a draft it fails, and nothing is queued
 unfoldable pub republished_of : ℕ → ℕ → Draft → Announcer → Announcer
-republished_of validity now draft a = if needs_new_of validity now a then maybe a (λ c. queued_of now c a) (draft_given draft) else a
+republished_of validity now draft a = when needs_new_of validity now a then maybe a (λ c. queued_of now c a) (draft_given draft) else a
 
 -- is an FDT being transferred
 unfoldable pub transferring_of : Announcer → Bool
@@ -130,12 +130,12 @@ transferring_of a = a.has_current && a.current.life.transferring
 -- nothing new while the current one is transferring; else republish if needed, take the front, start it if it may
 unfoldable pub next_of : Plan → ℕ → ℕ → Draft → Announcer → NextInstance
 next_of r validity now draft a =
-    if transferring_of a then record { taken = false; starts = false; announcer = a }
+    when transferring_of a then record { taken = false; starts = false; announcer = a }
     else start_of r now (needs_new_of validity now a && given (draft_given draft)) (front_of (republished_of validity now draft a))
 
 -- the current one is done
 unfoldable pub current_done : ℕ → Announcer → Announcer
-current_done now a = if a.has_current then holding a (done_instance now a.current) else a
+current_done now a = when a.has_current then holding a (done_instance now a.current) else a
 
 -- does an FDT wait
 abbrev pub waits_of : Announcer → Bool

@@ -1,7 +1,7 @@
 -- FDT: publishing, and which FDT is sent next (src/sender/fdt.rs). Objects and encoders have no part in it.
 use Rattle.std.specs.Prelude.{Bool, true, false, not, ◌&&◌, ◌||◌, List, [], ◌∷◌, ◌++◌, ℕ, ◌+◌, ◌-◌, ◌*◌, ◌%◌, eqb, ltb, leb, length}
 use Rattle.std.proofs.Math.Option.{Option, none, some}
-use Rattle.sizes.specs.Words.{if◌then◌else◌, maybe, given, collect, any}
+use Rattle.sizes.specs.Words.{when◌then◌else◌, maybe, given, collect, any}
 use Rattle.sizes.specs.Limits.{largest_fdt_id}
 use Rattle.lifecycle.specs.Parts.{shares, past_store}
 use Rattle.lifecycle.specs.declared.parts.Part.{Part}
@@ -53,8 +53,8 @@ seconds n = n * 1_000_000_000
 -- has the validity d run out, or nearly, once this much has elapsed
 unfoldable pub runs_out : ℕ → ℕ → Bool
 runs_out d elapsed =
-    if ltb (seconds 30) d then ltb (d - seconds 5) elapsed
-    else if ltb (seconds 10) d then ltb (d - seconds 1) elapsed
+    when ltb (seconds 30) d then ltb (d - seconds 5) elapsed
+    else when ltb (seconds 10) d then ltb (d - seconds 1) elapsed
     else leb d elapsed
 
 -- is a new FDT needed: none waits, and there is no current one, or none was ever published, or the validity runs out
@@ -69,7 +69,7 @@ takes_draft s now draft f = needs_new s now f && given draft
 
 -- republish: without a draft it fails, and nothing is queued
 unfoldable pub republished : Setup → ℕ → Option Part → FdtState → FdtState
-republished s now draft f = if needs_new s now f then maybe f (λ c. queued now c f) draft else f
+republished s now draft f = when needs_new s now f then maybe f (λ c. queued now c f) draft else f
 
 -- the front of the queue, if any, becomes current
 unfoldable pub front_taken : FdtState → FdtState
@@ -89,14 +89,14 @@ pub record Next : Type 0 where
 unfoldable pub start_current : Setup → ℕ → Bool → FdtState → Next
 start_current s now taken f =
     let stays : Next = record { taken = taken; state = f; starts = none } in
-    maybe stays (λ (i : Instance). if may_start (fdt_plan s) now i.life
+    maybe stays (λ (i : Instance). when may_start (fdt_plan s) now i.life
     then (let i' : Instance = record { id = i.id; part = i.part; life = started (fdt_plan s) now i.life; transferring = true } in record { taken = taken; state = with_current f i'; starts = some i' })
     else stays) f.current
 
 -- nothing new while the current one is transferring; else republish if needed, take the front, start it if it may
 unfoldable pub next_fdt : Setup → ℕ → Option Part → FdtState → Next
 next_fdt s now draft f =
-    if maybe false (λ (i : Instance). i.transferring) f.current then record { taken = false; state = f; starts = none }
+    when maybe false (λ (i : Instance). i.transferring) f.current then record { taken = false; state = f; starts = none }
     else start_current s now (takes_draft s now draft f) (front_taken (republished s now draft f))
 
 -- the current one is done; it has a carousel, so it stays current

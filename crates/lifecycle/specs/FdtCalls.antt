@@ -1,7 +1,7 @@
 -- What each call of fdt.rt makes of the records, and what every call keeps.
 use Rattle.std.specs.Prelude.{◌≡◌, Bool, true, false, not, ◌&&◌, ◌||◌, List, [], ◌∷◌, map, ℕ, ◌+◌, ◌-◌, ◌≤◌, eqb, ltb, leb, length, get_or, take, set, replicate}
 use Rattle.std.proofs.Math.Option.{Option, none, some}
-use Rattle.sizes.specs.Words.{if◌then◌else◌, maybe, given, any, has, place, shut, collect, one_if, times, first_of}
+use Rattle.sizes.specs.Words.{when◌then◌else◌, maybe, given, any, has, place, shut, collect, one_if, times, first_of}
 use Rattle.sizes.specs.Limits.{object_slots, toi_entries, waiting_fdts}
 use Rattle.sizes.specs.declared.refusal.Refusal.{Refusal}
 use Rattle.sizes.specs.declared.refusal.Refusal.TheVariants as Because
@@ -72,7 +72,7 @@ waits v = v.listed && not (sends v)
 
 -- the numbers of held objects
 abbrev pub used_tois : List Slot → List ℕ
-used_tois = collect (λ (v : Slot). if used v then some v.file.toi else none)
+used_tois = collect (λ (v : Slot). when used v then some v.file.toi else none)
 
 -- as many hold it as should, and a free one is all zeros
 pub record Tidy (v : Slot) : Type 0 where
@@ -146,14 +146,14 @@ in_slot f go = maybe (refuses f Because.Full) go (place is_free f.slots)
 -- an add that names a reservation: it is to be loose (6), and there is to be a slot (7)
 unfoldable pub named_of : Fdt → Request → Sizes → ℕ → Added
 named_of f q z t =
-    if has t (Alloc.loose f.tois)
+    when has t (Alloc.loose f.tois)
     then in_slot f (λ k. record { answer = AdmissionV.Toi t; fdt = put_of (with_tois f (Alloc.claimed_of t f.tois).allocator) k t q z })
     else refuses f Because.NotLoose
 
 -- one that names none: there is to be a slot and a TOI entry (7)
 unfoldable pub fresh_of : Fdt → Request → Sizes → Added
 fresh_of f q z =
-    in_slot f (λ k. if ltb f.tois.entered toi_entries
+    in_slot f (λ k. when ltb f.tois.entered toi_entries
     then record { answer = AdmissionV.Toi f.tois.next; fdt = put_of (with_tois f (Alloc.allocated_of false f.tois).allocator) k f.tois.next q z }
     else refuses f Because.Full)
 
@@ -165,9 +165,9 @@ numbered_of f q z NamedV.Anew = fresh_of f q z
 unfoldable pub added_of : Fdt → Request → Named → Added
 added_of f q named =
     let z = own_of q.own f.settings.sizes in
-    if f.complete then refuses f Because.Complete
-    else if bad_blocks z q.part.size then refuses f Because.Sizes
-    else if bad_part_of f q.part then refuses f Because.Part
+    when f.complete then refuses f Because.Complete
+    else when bad_blocks z q.part.size then refuses f Because.Sizes
+    else when bad_part_of f q.part then refuses f Because.Part
     else numbered_of f q z named
 
 -- ---- by number
@@ -200,7 +200,7 @@ freed_of f t k n = with_objects f (Alloc.dropped_of false t f.tois).allocator (s
 unfoldable pub removed_of : ℕ → Fdt → Touched
 removed_of t f = maybe (record { yes = false; fdt = f }) (λ k. record {
   yes = true;
-  fdt = if sends (slot_at f.slots k) then unlisted_of f k else maybe f (freed_of f t k) (place (λ j. eqb j k) (waiting f));
+  fdt = when sends (slot_at f.slots k) then unlisted_of f k else maybe f (freed_of f t k) (place (λ j. eqb j k) (waiting f));
 }) (listed_place t f)
 
 -- trigger touches an object that is not in transfer
@@ -208,7 +208,7 @@ unfoldable pub triggered_of : ℕ → Time → Fdt → Touched
 triggered_of t start f = maybe (record { yes = false; fdt = f }) (λ k. record {
   yes = true;
   fdt =
-      if sends (slot_at f.slots k) then f
+      when sends (slot_at f.slots k) then f
       else with_slots f (set f.slots k (let v = slot_at f.slots k in record { holders = v.holders; listed = v.listed; file = with_life v.file (reset_life start v.file.life) }));
 }) (listed_place t f)
 
@@ -253,7 +253,7 @@ let_go_of f k = with_objects f (Alloc.dropped_of false (slot_at f.slots k).file.
 -- the session that sends slot k is done with it; a slot that is not in transfer stays as it is
 unfoldable pub done_of : ℕ → ℕ → Fdt → Fdt
 done_of now k f =
-    if sends (slot_at f.slots k) then (if goes_back now (slot_at f.slots k) then back_of now f k else let_go_of f k)
+    when sends (slot_at f.slots k) then (when goes_back now (slot_at f.slots k) then back_of now f k else let_go_of f k)
     else f
 
 -- ---- the FDT side
@@ -278,9 +278,9 @@ refusal (AdmissionV.Refused why) = some why
 -- publish, refusals 4, 5 and 7 in their order
 unfoldable pub publish_of : ℕ → Part → Fdt → Published
 publish_of now c f =
-    if bad_blocks f.settings.sizes c.size then record { answer = PublicationV.Refused Because.Sizes; fdt = f }
-    else if bad_fdt_of f.settings.fdt_store c f.announcer || eqb c.size 0 then record { answer = PublicationV.Refused Because.Part; fdt = f }
-    else if leb waiting_fdts f.announcer.waiting then record { answer = PublicationV.Refused Because.Full; fdt = f }
+    when bad_blocks f.settings.sizes c.size then record { answer = PublicationV.Refused Because.Sizes; fdt = f }
+    else when bad_fdt_of f.settings.fdt_store c f.announcer || eqb c.size 0 then record { answer = PublicationV.Refused Because.Part; fdt = f }
+    else when leb waiting_fdts f.announcer.waiting then record { answer = PublicationV.Refused Because.Full; fdt = f }
     else record { answer = PublicationV.Done; fdt = with_published f (queued_of now c f.announcer) }
 
 -- what the test of a draft says
@@ -290,7 +290,7 @@ draft_said (DraftTestV.Refused why) = some why
 
 -- a draft of length 0 is none, and is not looked at
 unfoldable pub real_draft : Draft → Draft
-real_draft (DraftV.Given c) = if eqb c.size 0 then DraftV.Missing else DraftV.Given c
+real_draft (DraftV.Given c) = when eqb c.size 0 then DraftV.Missing else DraftV.Given c
 real_draft DraftV.Missing = DraftV.Missing
 
 unfoldable pub draft_test_of : Draft → Fdt → Option Refusal
@@ -301,7 +301,7 @@ draft_test_of (DraftV.Given c) f = first_of ((Because.Sizes, bad_blocks f.settin
 unfoldable pub next_fdt_of : ℕ → Draft → Fdt → NextFdt
 next_fdt_of now draft f =
     let r = next_of (fdt_plan_of f.settings.from_start f.settings.interval) f.settings.validity now draft f.announcer in
-    record { taken = r.taken; starts = r.starts; fdt = if r.taken then with_published f r.announcer else with_announcer f r.announcer }
+    record { taken = r.taken; starts = r.starts; fdt = when r.taken then with_published f r.announcer else with_announcer f r.announcer }
 
 unfoldable pub fdt_done_of : ℕ → Fdt → Fdt
 fdt_done_of now f = with_announcer f (Ann.current_done now f.announcer)

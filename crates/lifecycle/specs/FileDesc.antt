@@ -1,7 +1,7 @@
 -- The object's record as the code has it: what it means, and what each function makes of it.
 use Rattle.std.specs.Prelude.{Bool, true, false, not, ◌&&◌, ℕ, ◌+◌, ◌-◌, min, eqb, ltb}
 use Rattle.std.proofs.Math.Option.{Option, none, some}
-use Rattle.sizes.specs.Words.{if◌then◌else◌}
+use Rattle.sizes.specs.Words.{when◌then◌else◌}
 use Rattle.sizes.specs.Limits.{wide, largest_count, largest_total}
 use Rattle.sizes.specs.declared.partition.Sizes.{Sizes}
 use Rattle.lifecycle.specs.Lifecycle as Def
@@ -21,13 +21,13 @@ use Rattle.lifecycle.specs.declared.filedesc.FileDesc.{FileDesc}
 
 -- a time that may be missing
 abbrev pub time_of : Time → Option ℕ
-time_of t = if t.known then some t.at else none
+time_of t = when t.known then some t.at else none
 
 abbrev pub carousel_of : Plan → Option Def.Carousel
-carousel_of r = if r.repeats then some (if r.from_start then Def.Carousel.interval r.interval else Def.Carousel.delay r.interval) else none
+carousel_of r = when r.repeats then some (when r.from_start then Def.Carousel.interval r.interval else Def.Carousel.delay r.interval) else none
 
 abbrev pub target_of : Plan → Def.Target
-target_of r = if r.paced then (if r.by_time then Def.Target.by r.target else Def.Target.for r.target) else Def.Target.at_once
+target_of r = when r.paced then (when r.by_time then Def.Target.by r.target else Def.Target.for r.target) else Def.Target.at_once
 
 abbrev pub plan_of : Plan → Def.Plan
 plan_of r = record { most = r.most; carousel = carousel_of r; target = target_of r; stop_at_once = r.stop_at_once }
@@ -44,7 +44,7 @@ life_of x = record {
 }
 
 abbrev pub pace_said : Pace → Option Def.Pace
-pace_said p = if p.paced then some record { due = p.due; tick = p.tick } else none
+pace_said p = when p.paced then some record { due = p.due; tick = p.tick } else none
 
 -- what an input names
 abbrev pub carousel_named : Carousel → Option Def.Carousel
@@ -77,7 +77,7 @@ unfoldable pub started_life : Plan → ℕ → Life → Life
 started_life r now x = record {
   published = x.published;
   transferring = true;
-  count = if r.repeats && eqb x.count r.most then 0 else x.count;
+  count = when r.repeats && eqb x.count r.most then 0 else x.count;
   total = x.total;
   last_start = time_at now;
   last_end = x.last_end;
@@ -117,7 +117,7 @@ reset_life t x = record {
   total = x.total;
   last_start = no_time;
   last_end = no_time;
-  named_start = if t.known then t else x.named_start;
+  named_start = when t.known then t else x.named_start;
 }
 
 -- ---- what is asked, from the inputs
@@ -159,10 +159,10 @@ no_pace = record { paced = false; due = 0; tick = 0 }
 
 -- the time that a transfer has
 abbrev pub duration_of : Plan → ℕ → ℕ
-duration_of r now = if r.by_time then r.target - now else r.target
+duration_of r now = when r.by_time then r.target - now else r.target
 
 unfoldable pub pace_at : Plan → ℕ → ℕ → ℕ → Pace
-pace_at r now l e = if r.paced then record { paced = true; due = now; tick = tick_of (duration_of r now) l e } else no_pace
+pace_at r now l e = when r.paced then record { paced = true; due = now; tick = tick_of (duration_of r now) l e } else no_pace
 
 unfoldable pub ticked_of : Pace → Pace
-ticked_of p = if p.paced then record { paced = true; due = if ltb (p.due + p.tick) wide then p.due + p.tick else p.due; tick = p.tick } else p
+ticked_of p = when p.paced then record { paced = true; due = when ltb (p.due + p.tick) wide then p.due + p.tick else p.due; tick = p.tick } else p

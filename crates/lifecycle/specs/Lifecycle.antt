@@ -1,7 +1,7 @@
 -- Lifecycle of what is sent: when it may start, what a start and an end note, pacing (src/sender/filedesc.rs).
 use Rattle.std.specs.Prelude.{Bool, true, false, not, ◌&&◌, ◌||◌, ℕ, suc, ◌+◌, ◌-◌, ◌/◌, min, max, eqb, ltb, leb}
 use Rattle.std.proofs.Math.Option.{Option, none, some}
-use Rattle.sizes.specs.Words.{if◌then◌else◌, maybe, ceil, given}
+use Rattle.sizes.specs.Words.{when◌then◌else◌, maybe, ceil, given}
 use Rattle.sizes.specs.Limits.{wide, largest_count, largest_total}
 
 -- a carousel: sent again a delay after its last end, or an interval after its last start
@@ -43,7 +43,7 @@ repeats p = given p.carousel
 unfoldable pub started : Plan → ℕ → Life → Life
 started p now x = record {
   published = x.published;
-  count = if eqb x.count p.most && repeats p then 0 else x.count;
+  count = when eqb x.count p.most && repeats p then 0 else x.count;
   total = x.total;
   last_start = some now;
   last_end = x.last_end;
@@ -131,7 +131,7 @@ pace_of (by t) now l e = some record { due = now; tick = tick_of (t - now) l e }
 
 -- each packet moves the due time by one tick, unless the sum passes 64 bits
 unfoldable pub paced : Pace → Pace
-paced x = record { due = if ltb (x.due + x.tick) wide then x.due + x.tick else x.due; tick = x.tick }
+paced x = record { due = when ltb (x.due + x.tick) wide then x.due + x.tick else x.due; tick = x.tick }
 
 -- is it before the due time
 unfoldable pub too_early : ℕ → Option Pace → Bool

@@ -1,6 +1,6 @@
 -- The slots of held objects and the queue, as the code has them, and what each search asks.
 use Rattle.std.specs.Prelude.{Bool, false, not, ◌&&◌, List, ℕ, eqb, get_or}
-use Rattle.sizes.specs.Words.{if◌then◌else◌}
+use Rattle.sizes.specs.Words.{when◌then◌else◌}
 use Rattle.lifecycle.specs.Parts.{shares}
 use Rattle.lifecycle.specs.FileDesc.{no_time, unborn_of, plain_plan, with_life, published_life, startable_file}
 use Rattle.lifecycle.specs.declared.parts.Part.{Part}
@@ -44,4 +44,4 @@ queue_startable l p now k = startable_file p now (slot_at l k).file
 
 -- a listed object is published from now on
 unfoldable pub published_slot : Slot → Slot
-published_slot v = if v.listed then record { holders = v.holders; listed = v.listed; file = with_life v.file (published_life v.file.life) } else v
+published_slot v = when v.listed then record { holders = v.holders; listed = v.listed; file = with_life v.file (published_life v.file.life) } else v

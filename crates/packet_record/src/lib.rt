@@ -1,7 +1,8 @@
 // The record of a sender's packet.
 #![tactic(auto)]
+
 ghost use Rattle.std.specs.Prelude.{◌≡◌};
-ghost use Rattle.sizes.specs.Words.{if◌then◌else◌, over};
+ghost use Rattle.sizes.specs.Words.{when◌then◌else◌, over};
 ghost use Rattle.sender.specs.SenderCalls.{packet_said, packet_in};
 ghost use Rattle.packet_record.specs.PacketRecord.{record_of, record_said};
 
@@ -48,7 +49,7 @@ fn record_of(p: Packet) -> Record
 
 // Only an FDT's packet has an id.
 fn own_id(is_fdt: bool, id: u32) -> u32
-    ensures { result ≡ (if is_fdt then id else 0) }
+    ensures { result ≡ (when is_fdt then id else 0) }
 {
     if is_fdt {
         return id;

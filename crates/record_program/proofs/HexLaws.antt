@@ -11,7 +11,7 @@ use borrow.Author.Tests.{lt-ltb, le-ltb, le-leb, lt-leb, leb-true}
 use lib.Dec.{leb}
 use lib.ListN.{length, take, drop, set, get_or, drop_of_length-le}
 use lib.Seq.{drop-cons, length-take-le, take-suc, take-suc-set}
-use Rattle.sizes.specs.Words.{if◌then◌else◌, within, Each}
+use Rattle.sizes.specs.Words.{when◌then◌else◌, within, Each}
 use Rattle.text.specs.Put.{Appended, Put}
 use Rattle.text.proofs.Lists.{both as both_true, lt_or_le}
 use Rattle.text.proofs.Appends.{both}
@@ -52,7 +52,7 @@ module _ (c : ℕ) where
       rw (le-leb 48 c (omega arith), lt-leb c 57 (omega arith), le-leb 65 c (omega arith), lt-leb c 70 (omega arith), le-leb 97 c (omega arith), lt-leb c 102 h)
 
 -- a digit stands for less than 16
-chosen : (b : Bool) (m n : ℕ) (rest : Meant) → (b ≡ true → m < 16) → (rest ≡ Number n → n < 16) → (if b then Number m else rest) ≡ Number n → n < 16
+chosen : (b : Bool) (m n : ℕ) (rest : Meant) → (b ≡ true → m < 16) → (rest ≡ Number n → n < 16) → (when b then Number m else rest) ≡ Number n → n < 16
 chosen true m n rest f g e = let k : m ≡ n = cc in let h = f refl in omega arith
 chosen false m n rest f g e = g e
 

@@ -8,7 +8,7 @@ use native.Mathlib.Omega.{arith}
 use borrow.Author.Tests.{lt-ltb, le-leb, leb-true, ltb-true}
 use lib.Dec.{leb, ltb}
 use lib.ListN.{length, get_or}
-use Rattle.sizes.specs.Words.{if◌then◌else◌}
+use Rattle.sizes.specs.Words.{when◌then◌else◌}
 use Rattle.text.proofs.Lists.{bool_cases, both}
 use Rattle.wire.specs.Record.{record_size, good, writable, done, writing_said, write_answer, RecordWrites}
 use Rattle.wire.specs.declared.record.Record.{Record}
@@ -65,7 +65,7 @@ abbrev pub is_done : Writing → Bool
 is_done Done = true
 is_done Refused = false
 
-told : (a : Writing) (b : Bool) → writing_said a ≡ (if b then done else writing_said Refused) → is_done a ≡ b
+told : (a : Writing) (b : Bool) → writing_said a ≡ (when b then done else writing_said Refused) → is_done a ≡ b
 told Done true h = refl
 told Done false h = let z : ◌≡◌ {A = ℕ} 0 1 = cc in absurd (omega arith)
 told Refused true h = let z : ◌≡◌ {A = ℕ} 0 1 = cc in absurd (omega arith)

@@ -1,7 +1,7 @@
 -- Bytes in hex: two digits for each byte, the higher one first.
 use Rattle.std.specs.Prelude.{◌≡◌, List, [], ◌∷◌, ◌++◌, ℕ, ◌+◌, ◌-◌, ◌*◌, ◌/◌, ◌%◌, ◌≤◌, ltb, length, take}
 use Rattle.std.proofs.Math.Option.{Option, some, none}
-use Rattle.sizes.specs.Words.{if◌then◌else◌, within}
+use Rattle.sizes.specs.Words.{when◌then◌else◌, within}
 use Rattle.record_program.specs.declared.hex.Meant.{Meant}
 use Rattle.record_program.specs.declared.hex.Meant.TheVariants.{Number, Nothing}
 use Rattle.record_program.specs.declared.hex.Spelled.{Spelled}
@@ -9,7 +9,7 @@ use Rattle.record_program.specs.declared.hex.Spelled.TheVariants.{Bytes, Nothing
 
 -- the ASCII code of a digit: `0` to `9`, then `a` to `f`
 unfoldable pub digit_of : ℕ → ℕ
-digit_of n = if ltb n 10 then 48 + n else 87 + n
+digit_of n = when ltb n 10 then 48 + n else 87 + n
 
 -- a byte, and a list of bytes
 unfoldable pub byte_text : ℕ → List ℕ
@@ -22,9 +22,9 @@ hex_of (b ∷ l) = byte_text b ++ hex_of l
 -- what a digit stands for: `0` to `9`, `A` to `F`, or `a` to `f`
 unfoldable pub value_of : ℕ → Meant
 value_of c =
-    if within 48 57 c then Number (c - 48) else
-    (if within 65 70 c then Number (c - 55) else
-    (if within 97 102 c then Number (c - 87) else Nothing))
+    when within 48 57 c then Number (c - 48) else
+    (when within 65 70 c then Number (c - 55) else
+    (when within 97 102 c then Number (c - 87) else Nothing))
 
 -- two digits
 unfoldable pub pair_value : Meant → Meant → Meant

@@ -1,5 +1,6 @@
 // The two commands on records, one that writes a record and one that reads it: their words, and the texts of their answers.
 #![tactic(auto)]
+
 mod hex;
 mod numbers;
 

@@ -5,7 +5,7 @@ use mathlib.Core.Option.{none, some}
 use mathlib.Core.List.{List}
 use Prim.Native.Nat.{ℕ}
 use lib.ListN.{length, take, drop}
-use Rattle.sizes.specs.Words.{if◌then◌else◌, maybe}
+use Rattle.sizes.specs.Words.{when◌then◌else◌, maybe}
 use Rattle.sizes.specs.Refusals.{refusal_number}
 use Rattle.sizes.specs.declared.refusal.Refusal.TheVariants as Because
 use Rattle.lifecycle.specs.Parts.{past_store}
@@ -35,16 +35,16 @@ module _ (n f : ℕ) (s : Sent) (r : PayloadPlace) where
   -- without a packet
   pub of_none : s.sent ≡ false → place_named r ≡ no_place → PayloadTold n f s r
   unfolding place_of
-  of_none e h = placed (λ m a b. h ∙ sym (ap (λ t. place_of m (if t then some (packet_said s.packet) else none)) e))
+  of_none e h = placed (λ m a b. h ∙ sym (ap (λ t. place_of m (when t then some (packet_said s.packet) else none)) e))
 
   -- with one whose payload stands in the store x of length k
   in_store : (x : Store) (k : ℕ) (m : Stores) → s.sent ≡ true → store_of (packet_said s.packet) ≡ x → length (bytes_of m x) ≡ k
-      → place_of m (packet_sent s) ≡ (if past_store k s.packet.symbol.payload then no_place else record { store = x; part = s.packet.symbol.payload })
+      → place_of m (packet_sent s) ≡ (when past_store k s.packet.symbol.payload then no_place else record { store = x; part = s.packet.symbol.payload })
   unfolding place_of
   in_store x k m e stands long =
-      ap (λ t. place_of m (if t then some (packet_said s.packet) else none)) e
-      ∙ ap (λ y. if past_store (length (bytes_of m y)) s.packet.symbol.payload then no_place else record { store = y; part = s.packet.symbol.payload }) stands
-      ∙ ap (λ j. if past_store j s.packet.symbol.payload then no_place else record { store = x; part = s.packet.symbol.payload }) long
+      ap (λ t. place_of m (when t then some (packet_said s.packet) else none)) e
+      ∙ ap (λ y. when past_store (length (bytes_of m y)) s.packet.symbol.payload then no_place else record { store = y; part = s.packet.symbol.payload }) stands
+      ∙ ap (λ j. when past_store j s.packet.symbol.payload then no_place else record { store = x; part = s.packet.symbol.payload }) long
 
   pub of_an_fdt : s.sent ≡ true → s.packet.is_fdt ≡ true → place_named r ≡ place_in true f s.packet.symbol.payload → PayloadTold n f s r
   of_an_fdt e d h = placed (λ m a b. h ∙ sym (in_store Store.fdts f m e (of_fdt s.packet d) b))

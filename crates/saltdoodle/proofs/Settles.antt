@@ -10,7 +10,7 @@ use lib.Dec.{ltb}
 use borrow.Author.Tests.{ltb-true, ltb-false}
 use lib.ListN.{get_or, set, length, length-set}
 use Rattle.std.proofs.lemmas.List.{get_or_default, get_or-set_same, set-set}
-use Rattle.sizes.specs.Words.{if◌then◌else◌}
+use Rattle.sizes.specs.Words.{when◌then◌else◌}
 use Rattle.lifecycle.specs.Lifecycle.{too_early}
 use Rattle.lifecycle.specs.FileDesc.{pace_said}
 use Rattle.lifecycle.specs.Slots.{slot_at, no_slot}
@@ -73,7 +73,7 @@ slot_by : (x : SenderSession) (y : BlockEncoder) (e : Emitted) → (service_by x
 slot_by x y EmittedV.Nothing = refl
 slot_by x y (EmittedV.One s) = refl
 
-slot_if : (b : Bool) (x : SenderSession) (r : Serving) → r.session.slot ≡ x.slot → (if b then record { answer = OutcomeV.Idle; session = x } else r).session.slot ≡ x.slot
+slot_if : (b : Bool) (x : SenderSession) (r : Serving) → r.session.slot ≡ x.slot → (when b then record { answer = OutcomeV.Idle; session = x } else r).session.slot ≡ x.slot
 slot_if true x r e = refl
 slot_if false x r e = e
 

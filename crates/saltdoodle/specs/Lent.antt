@@ -1,6 +1,6 @@
 -- What each call promises on a sender that the host lends.
 use Rattle.std.specs.Prelude.{◌≡◌, ℕ}
-use Rattle.sizes.specs.Words.{if◌then◌else◌}
+use Rattle.sizes.specs.Words.{when◌then◌else◌}
 use Rattle.lifecycle.specs.declared.parts.Part.{Part}
 use Rattle.lifecycle.specs.declared.announce.Draft.TheVariants as DraftV
 use Rattle.lifecycle.specs.declared.fdt.Transfers.{Transfers}
@@ -49,7 +49,7 @@ RunsFileLent i now s = Lent (RunsFile i now s) (λ (r : Running). r.sender) (λ 
 
 -- of a set-up: a refused one leaves what stood there
 abbrev pub OpensLent : PlainSetup → Sender → Sender → ℕ → Type 0
-OpensLent z s = Lent (Opens (setup_in z)) (λ (r : Opened). if r.ok then r.sender else s) (λ (r : Opened). open_told r.ok)
+OpensLent z s = Lent (Opens (setup_in z)) (λ (r : Opened). when r.ok then r.sender else s) (λ (r : Opened). open_told r.ok)
 
 -- the sender stays
 pub record TotalsTold (t : ℕ) (s : Sender) (answer : Counted) : Type 0 where

@@ -2,7 +2,7 @@
 use Rattle.std.specs.Prelude.{◌≡◌, Bool, false, List, ℕ, length, take, drop}
 use Rattle.std.proofs.Math.Option.{Option, none, some}
 use Rattle.sizes.specs.Partition.{sbn, esi}
-use Rattle.sizes.specs.Words.{if◌then◌else◌, maybe, over}
+use Rattle.sizes.specs.Words.{when◌then◌else◌, maybe, over}
 use Rattle.sizes.specs.Refusals.{refusal_number}
 use Rattle.sizes.specs.declared.refusal.Refusal.TheVariants as Because
 use Rattle.lifecycle.specs.Parts.{past_store}
@@ -25,21 +25,21 @@ use Rattle.saltdoodle.specs.declared.record.PayloadPlace.{PayloadPlace}
 
 -- the packet that was sent, if one was
 abbrev pub packet_sent : Sent → Option Packet
-packet_sent s = if s.sent then some (packet_said s.packet) else none
+packet_sent s = when s.sent then some (packet_said s.packet) else none
 
 -- what is told of an answer keeps its packet
 abbrev pub PacketKept : Type 0
 PacketKept = (taken : Bool) (a : RunAnswer) → packet_sent (run_told taken a) ≡ packet_in a
 
 abbrev pub store_named : Bool → Store
-store_named of_fdt = if of_fdt then Store.fdts else Store.objects
+store_named of_fdt = when of_fdt then Store.fdts else Store.objects
 
 abbrev pub place_named : PayloadPlace → Place
 place_named r = record { store = store_named r.of_fdt; part = record { start = r.start; size = r.size } }
 
 -- a part of a store of this length, if the store has it
 abbrev pub place_in : Bool → ℕ → Part → Place
-place_in of_fdt n c = if past_store n c then no_place else record { store = store_named of_fdt; part = c }
+place_in of_fdt n c = when past_store n c then no_place else record { store = store_named of_fdt; part = c }
 
 -- for any stores of these lengths, it is the payload's place, and the bytes there are the payload
 pub record PayloadTold (object_store fdt_store : ℕ) (s : Sent) (r : PayloadPlace) : Type 0 where

@@ -9,7 +9,7 @@ use Prim.Native.Nat.{ℕ, ◌+◌}
 use native.Mathlib.Omega.{arith}
 use lib.Dec.{eqb}
 use borrow.Author.Tests.{eq-eqb}
-use Rattle.sizes.specs.Words.{if◌then◌else◌, given, keep, any, one_if, times}
+use Rattle.sizes.specs.Words.{when◌then◌else◌, given, keep, any, one_if, times}
 use Rattle.sizes.specs.Allocator as Alloc
 use Rattle.sizes.specs.declared.partition.Sizes.{Sizes}
 use Rattle.sizes.specs.declared.toiallocator.ToiAllocator.{ToiAllocator}
@@ -26,7 +26,6 @@ use Rattle.lifecycle.specs.FdtCalls.{new_slot}
 use Rattle.lifecycle.proofs.FdtMeans.{ListAdds, Admits, refused, admits}
 use Rattle.lifecycle.specs.declared.fdt.Fdt.{Fdt}
 use Rattle.lifecycle.specs.declared.fdt.Added.{Added}
-use Rattle.lifecycle.specs.declared.fdt.Admission.TheVariants as AdmissionV
 use Rattle.lifecycle.specs.declared.fdt.Request.{Request}
 use Rattle.lifecycle.specs.declared.fdt.Named.{Named}
 use Rattle.lifecycle.specs.declared.fdt.Named.TheVariants as NamedV
@@ -74,7 +73,7 @@ made_view u s a o t =
 -- a number that was put last is taken out again
 unloosed_last : (t : ℕ) (l : List ℕ) → times t l ≡ 0 → keep (λ u. not (eqb u t)) (l ++ (t ∷ [])) ≡ l
 unloosed_last t [] h = rw (eq-eqb t t refl)
-unloosed_last t (a ∷ l) h = (elim (eqb a t) as (λ b. one_if b + times t l ≡ 0 → (if not b then a ∷ keep (λ u. not (eqb u t)) (l ++ (t ∷ [])) else keep (λ u. not (eqb u t)) (l ++ (t ∷ []))) ≡ a ∷ l)
+unloosed_last t (a ∷ l) h = (elim (eqb a t) as (λ b. one_if b + times t l ≡ 0 → (when not b then a ∷ keep (λ u. not (eqb u t)) (l ++ (t ∷ [])) else keep (λ u. not (eqb u t)) (l ++ (t ∷ []))) ≡ a ∷ l)
     [ true ↦ λ z. absurd (omega arith) | false ↦ λ z. ap (λ r. a ∷ r) (unloosed_last t l (omega arith)) ]) h
 
 module _ (u : Setup) (o : Object) (s : Sender) (agrees : Agrees u s) (v : ValidSender s) where
@@ -104,7 +103,7 @@ module _ (u : Setup) (o : Object) (s : Sender) (agrees : Agrees u s) (v : ValidS
   -- the desk after an add that is not refused
   desk_added : (named : Named) (k t : ℕ) (r : Added) → ObjectsOnly s.fdt r.fdt → Admits s.fdt (request_of o) own named k t r
       → ◌≡◌ {A = Def.Result}
-      (Def.Answer.number (Def.toi_for (desk_of s) (named_said named)), Def.admitted u (Def.toi_for (desk_of s) (named_said named)) (object_said o) (if given (named_said named) then desk_of s else Def.reserved u (desk_of s)))
+      (Def.Answer.number (Def.toi_for (desk_of s) (named_said named)), Def.admitted u (Def.toi_for (desk_of s) (named_said named)) (object_said o) (when given (named_said named) then desk_of s else Def.reserved u (desk_of s)))
       (Def.Answer.number t, desk_of (with_list s r.fdt))
   unfolding Def.toi_for Def.reserved Def.numbered Def.unloosed desk_of
   desk_added (NamedV.Toi w) k t r b h =
@@ -137,12 +136,12 @@ module _ (o : Object) (named : Named) (s : Sender) (v : ValidSender s) where
   -- the refusal, or what an admitted add makes of the desk
   abbrev comes : Setup → Option Refusal → Def.Result
   comes u x = Def.unless x (desk_of s)
-      (Def.Answer.number (Def.toi_for (desk_of s) (named_said named)), Def.admitted u (Def.toi_for (desk_of s) (named_said named)) (object_said o) (if given (named_said named) then desk_of s else Def.reserved u (desk_of s)))
+      (Def.Answer.number (Def.toi_for (desk_of s) (named_said named)), Def.admitted u (Def.toi_for (desk_of s) (named_said named)) (object_said o) (when given (named_said named) then desk_of s else Def.reserved u (desk_of s)))
 
   step_is : (u : Setup) → Agrees u s → {b : Bool} → any (has_priority o.priority) (working s) ≡ b
-      → Def.step u (desk_of s) call ≡ comes u (if not b then some Because.NoPriority else refusal (added_of s.fdt (request_of o) named).answer)
+      → Def.step u (desk_of s) call ≡ comes u (when not b then some Because.NoPriority else refusal (added_of s.fdt (request_of o) named).answer)
   unfolding Def.step
-  step_is u a e = ap (comes u) (add_refusal_view u s a v o named ∙ ap (λ b. if not b then some Because.NoPriority else refusal (added_of s.fdt (request_of o) named).answer) e)
+  step_is u a e = ap (comes u) (add_refusal_view u s a v o named ∙ ap (λ b. when not b then some Because.NoPriority else refusal (added_of s.fdt (request_of o) named).answer) e)
 
   -- what the list makes of it is what the definition says
   list_means : (u : Setup) → Agrees u s → (r : Added) → ListAdds s.fdt (request_of o) (own_of o.own s.fdt.settings.sizes) named r → ObjectsOnly s.fdt r.fdt

@@ -4,7 +4,7 @@ use mathlib.Core.Bool.{Bool, true, false, not, ◌&&◌}
 use mathlib.Core.List.{List, [], ◌∷◌, map}
 use Prim.Native.Nat.{ℕ}
 use lib.Dec.{eqb}
-use Rattle.sizes.specs.Words.{if◌then◌else◌, keep}
+use Rattle.sizes.specs.Words.{when◌then◌else◌, keep}
 use Rattle.sizes.proofs.Lists.{each_all, map_comm}
 use Rattle.lifecycle.specs.Lifecycle.{triggered}
 use Rattle.lifecycle.specs.FileDesc.{time_of, life_of, pace_said, with_life, reset_life}
@@ -39,7 +39,7 @@ removed_side t f v = same_by (removed_keeps f t) (removed_numbers f t v)
 
 keep_map : {A B : Type 0} (ok : B → Bool) (f : A → B) (l : List A) → keep ok (map f l) ≡ map f (keep (λ a. ok (f a)) l)
 keep_map ok f [] = refl
-keep_map ok f (a ∷ l) = elim (ok (f a)) as (λ t. (if t then f a ∷ keep ok (map f l) else keep ok (map f l)) ≡ map f (if t then a ∷ keep (λ a. ok (f a)) l else keep (λ a. ok (f a)) l))
+keep_map ok f (a ∷ l) = elim (ok (f a)) as (λ t. (when t then f a ∷ keep ok (map f l) else keep ok (map f l)) ≡ map f (when t then a ∷ keep (λ a. ok (f a)) l else keep (λ a. ok (f a)) l))
     [ true ↦ ap (λ r. f a ∷ r) (keep_map ok f l) | false ↦ keep_map ok f l ]
 
 and_true : (a : Bool) → (a && true) ≡ a
@@ -57,7 +57,7 @@ flagged y x b = record { object = object_of y.file; listed = b; encoder = encode
 -- off the list if it has the number
 unlisted_hand : (t : ℕ) (y : Slot) (x : SenderSession) → flagged y x (listed_but t y) ≡ Def.touched_hand t Def.Touch.remove (hand_of y x)
 unfolding Def.touched_hand Def.is
-unlisted_hand t y x = elim (eqb y.file.toi t) as (λ b. flagged y x (y.listed && not b) ≡ (if b then flagged y x false else hand_of y x))
+unlisted_hand t y x = elim (eqb y.file.toi t) as (λ b. flagged y x (y.listed && not b) ≡ (when b then flagged y x false else hand_of y x))
     [ true ↦ ap (flagged y x) (and_false y.listed) | false ↦ ap (flagged y x) (and_true y.listed) ]
 
 pub removed_desk : (s : Sender) → ValidSender s → (t : ℕ) → desk_of (with_list s (removed_of t s.fdt).fdt) ≡ Def.touched t Def.Touch.remove (desk_of s)
@@ -108,7 +108,7 @@ triggered_side t start f = same_by (triggered_keeps f t start) (triggered_number
 -- the object that was reset
 prompted_object : (t : ℕ) (start : Time) (o : FileDesc) → object_of (reset_file t start o) ≡ prompted t (time_of start) (object_of o)
 unfolding prompted Def.is
-prompted_object t start o = elim (eqb o.toi t) as (λ b. object_of (if b then with_life o (reset_life start o.life) else o) ≡ (if b then living (triggered (time_of start) (life_of o.life)) (object_of o) else object_of o))
+prompted_object t start o = elim (eqb o.toi t) as (λ b. object_of (when b then with_life o (reset_life start o.life) else o) ≡ (when b then living (triggered (time_of start) (life_of o.life)) (object_of o) else object_of o))
     [ true ↦ ap (λ x. living x (object_of o)) (life_reset start o.life) | false ↦ refl ]
 
 pub prompted_desk : (s : Sender) → ValidSender s → (t : ℕ) (start : Time)

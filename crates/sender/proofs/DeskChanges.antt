@@ -7,7 +7,7 @@ use Prim.Native.Nat.{ℕ}
 use lib.Dec.{eqb}
 use lib.ListN.{get_or}
 use lib.Seq.{get_or-take}
-use Rattle.sizes.specs.Words.{if◌then◌else◌, maybe, over, given, collect, find, at}
+use Rattle.sizes.specs.Words.{when◌then◌else◌, maybe, over, given, collect, find, at}
 use Rattle.sizes.proofs.Lists.{at_take, at_get, map_append}
 use Rattle.sizes.proofs.Tables.{map_at, find_map}
 use Rattle.lifecycle.specs.Setup.{Setup}
@@ -55,7 +55,7 @@ sessions_moved s v t g h =
     ∙ map_through (Def.in_hand g) (session_of s.fdt.slots) (working s)
   where
     both : (x : SenderSession) (b : Bool) → (b ≡ true → hand_of (slot_at t x.slot) x ≡ g (hand_of (slot_at s.fdt.slots x.slot) x))
-        → (if b then some (hand_of (slot_at t x.slot) x) else none) ≡ maybe none (λ y. some (g y)) (if b then some (hand_of (slot_at s.fdt.slots x.slot) x) else none)
+        → (when b then some (hand_of (slot_at t x.slot) x) else none) ≡ maybe none (λ y. some (g y)) (when b then some (hand_of (slot_at s.fdt.slots x.slot) x) else none)
     both x true q = ap some (q refl)
     both x false q = refl
 
@@ -162,8 +162,8 @@ desk_moved s f q x k a b = λ i. record {
 
 -- one slot more
 listed_more : (y : Slot) (m : List Object) (l : List FileDesc) → m ≡ map object_of l
-    → maybe m (λ o. o ∷ m) (if y.listed then some (object_of y.file) else none) ≡ map object_of (maybe l (λ o. o ∷ l) (if y.listed then some y.file else none))
-listed_more y m l r = elim y.listed as (λ b. maybe m (λ o. o ∷ m) (if b then some (object_of y.file) else none) ≡ map object_of (maybe l (λ o. o ∷ l) (if b then some y.file else none)))
+    → maybe m (λ o. o ∷ m) (when y.listed then some (object_of y.file) else none) ≡ map object_of (maybe l (λ o. o ∷ l) (when y.listed then some y.file else none))
+listed_more y m l r = elim y.listed as (λ b. maybe m (λ o. o ∷ m) (when b then some (object_of y.file) else none) ≡ map object_of (maybe l (λ o. o ∷ l) (when b then some y.file else none)))
     [ true ↦ ap (λ k. object_of y.file ∷ k) r | false ↦ r ]
 
 -- the listed objects that sessions have in hand, by their slots
@@ -179,8 +179,8 @@ listed_in t (x ∷ l) = go x.busy (listed_in t l)
     m = Def.listed_in_hands (map (session_of t) l)
 
     go : (b : Bool) → m ≡ map object_of (listed_files t (collect slot_in l))
-        → maybe m (λ o. o ∷ m) (maybe none (λ (h : Hand). if h.listed then some h.object else none) (if b then some (hand_of y x) else none))
-        ≡ map object_of (listed_files t (maybe (collect slot_in l) (λ k. k ∷ collect slot_in l) (if b then some x.slot else none)))
+        → maybe m (λ o. o ∷ m) (maybe none (λ (h : Hand). when h.listed then some h.object else none) (when b then some (hand_of y x) else none))
+        ≡ map object_of (listed_files t (maybe (collect slot_in l) (λ k. k ∷ collect slot_in l) (when b then some x.slot else none)))
     go true r = listed_more y m (listed_files t (collect slot_in l)) r
     go false r = r
 

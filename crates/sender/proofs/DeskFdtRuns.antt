@@ -7,7 +7,7 @@ use mathlib.Core.Option.{Option, none, some}
 use mathlib.Core.List.{[], ◌∷◌}
 use Prim.Native.Nat.{ℕ}
 use lib.ListN.{get_or}
-use Rattle.sizes.specs.Words.{if◌then◌else◌, maybe, collect, first_of}
+use Rattle.sizes.specs.Words.{when◌then◌else◌, maybe, collect, first_of}
 use Rattle.sizes.proofs.Tests.{if_on}
 use Rattle.lifecycle.specs.Lifecycle as Life
 use Rattle.lifecycle.specs.Setup.{Setup, bad_blocks}
@@ -40,7 +40,6 @@ use Rattle.sender.specs.declared.sendersession.Outcome.TheVariants.{Idle, Sent, 
 use Rattle.sender.specs.declared.fdtsession.FdtSession.{FdtSession}
 use Rattle.sender.specs.declared.fdtsession.FdtTurn.{FdtTurn}
 use Rattle.sender.specs.declared.sender.Sender.{Sender}
-use Rattle.sender.specs.declared.sender.RunAnswer.TheVariants as RunV
 use Rattle.sender.proofs.SessionLaws.{holds_next_fdt, holds_fdt_done}
 use Rattle.sender.proofs.FdtSessionLaws.{draft_looked}
 use Rattle.lifecycle.proofs.AnnounceKeep.{SameObjects, marked_slots}
@@ -73,7 +72,7 @@ module _ (w now : ℕ) (draft : Draft) (P : Fdt → Bool → Type 0)
       let n = next_fdt_of now (left_of draft taken) f in
       let i = n.fdt.announcer.current in
       let q = next (left_of draft taken) f (subst (P f) e p) in
-      sent_on (taken || n.taken) n.fdt (if n.starts then fdt_begun_of w i.id i.part f.settings.sizes else x)
+      sent_on (taken || n.taken) n.fdt (when n.starts then fdt_begun_of w i.id i.part f.settings.sizes else x)
       (if_on (λ (y : FdtSession). P n.fdt y.busy) n.starts (λ b. subst (P n.fdt) b q) (λ b. subst (P n.fdt) (b ∙ sym e) q)))
 
   ran_on : (f : Fdt) (x : FdtSession) → P f x.busy → After (fdt_ran_of w now draft f x)
@@ -107,7 +106,7 @@ ran_matched w now draft f x v e = (ran_on w now draft Matched
 
 -- the list, after a draft was taken or not
 abbrev sided : Fdt → Bool → Announcer → Fdt
-sided f taken a = if taken then with_published f a else with_announcer f a
+sided f taken a = when taken then with_published f a else with_announcer f a
 
 -- the sender with another list, and another FDT session
 abbrev onward : Sender → Fdt → FdtSession → Sender
@@ -130,12 +129,12 @@ module _ (s : Sender) (v : ValidSender s) (f : Fdt) (y : FdtSession) (taken : Bo
       by false = refl
 
   -- the FDT side is new, and a draft that was taken marks every listed object
-  onward_desk : desk_of (onward s f y) ≡ (if taken then Def.all_published (Def.with_fdt (desk_of s) (fdt_of f y)) else Def.with_fdt (desk_of s) (fdt_of f y))
+  onward_desk : desk_of (onward s f y) ≡ (when taken then Def.all_published (Def.with_fdt (desk_of s) (fdt_of f y)) else Def.with_fdt (desk_of s) (fdt_of f y))
   unfolding desk_of Def.with_fdt
   onward_desk = ap (λ g. desk_of (onward s g y)) (is_sided f.announcer) ∙ by taken
     where
       by : (b : Bool) → desk_of (onward s (sided s.fdt b f.announcer) y)
-          ≡ (if b then Def.all_published (Def.with_fdt (desk_of s) (fdt_of f y)) else Def.with_fdt (desk_of s) (fdt_of f y))
+          ≡ (when b then Def.all_published (Def.with_fdt (desk_of s) (fdt_of f y)) else Def.with_fdt (desk_of s) (fdt_of f y))
       by true = announced_desk s v f.announcer y
       by false = refl
 
@@ -213,7 +212,7 @@ set_up_of w z = record {
   width = 0;
   first = 0;
   first_id = 0;
-  carousel = if z.from_start then Life.Carousel.interval z.interval else Life.Carousel.delay z.interval;
+  carousel = when z.from_start then Life.Carousel.interval z.interval else Life.Carousel.delay z.interval;
   validity = z.validity;
 }
 
@@ -250,7 +249,7 @@ module _ (s : Sender) (now : ℕ) (draft : Draft) (v : ValidSender s) where
           means = λ u g. (
               let m = runs_means u (record { window = g.window; sizes = g.sizes; validity = g.validity; carousel = g.carousel }) in
               (λ i. Def.unless ((refusal_view u s g draft ∙ e) i) (desk_of s) (Def.fdt_ran u now (draft_view draft i) (desk_of s)))
-              ∙ ap (λ (r : DefTurn). (Def.Answer.fdt_output r.taken r.packet, if r.taken then Def.all_published (Def.with_fdt (desk_of s) r.fdt) else Def.with_fdt (desk_of s) r.fdt)) m.view
+              ∙ ap (λ (r : DefTurn). (Def.Answer.fdt_output r.taken r.packet, when r.taken then Def.all_published (Def.with_fdt (desk_of s) r.fdt) else Def.with_fdt (desk_of s) r.fdt)) m.view
               ∙ (λ i. (answer_view runs.taken runs.session.id runs.answer i, sym (onward_desk s v runs.fdt runs.session runs.taken t.slots t.same) i)));
           agrees = onward_agrees s v runs.fdt runs.session runs.taken t.slots t.same;
           valid = onward_valid s v runs.fdt runs.session runs.taken t.slots t.same

@@ -6,7 +6,7 @@ use mathlib.Core.List.{[], ◌∷◌}
 use Prim.Native.Nat.{ℕ, ◌≤◌, ◌<◌}
 use lib.Dec.{ltb}
 use borrow.Author.Tests.{ltb-true, ltb-false}
-use Rattle.sizes.specs.Words.{if◌then◌else◌, given, has, first_of}
+use Rattle.sizes.specs.Words.{when◌then◌else◌, has, first_of}
 use Rattle.sizes.specs.Limits.{toi_entries}
 use Rattle.sizes.specs.Allocator as Alloc
 use Rattle.sizes.specs.declared.toiallocator.ToiAllocator.{ToiAllocator}
@@ -56,11 +56,11 @@ after_reserve s x = (alloc_answer (Alloc.given_said x.answer), desk_of (with_lis
 
 module _ (s : Sender) (v : ValidSender s) (u : Setup) (w : Agrees u s) where
   -- refused or not, by the test that the allocator makes
-  reserve_tested : (b : Bool) → ltb s.fdt.tois.entered toi_entries ≡ b → step u (desk_of s) Call.reserve ≡ (if b then (Answer.number s.fdt.tois.next, reserved u (desk_of s)) else (Answer.refused Because.Full, desk_of s))
+  reserve_tested : (b : Bool) → ltb s.fdt.tois.entered toi_entries ≡ b → step u (desk_of s) Call.reserve ≡ (when b then (Answer.number s.fdt.tois.next, reserved u (desk_of s)) else (Answer.refused Because.Full, desk_of s))
   unfolding step reserve_refusal desk_of
   reserve_tested b e =
       ap (λ x. unless (first_of ((Because.Full, x) ∷ [])) (desk_of s) (Answer.number s.fdt.tois.next, reserved u (desk_of s))) (full_view s v ∙ ap not e)
-      ∙ elim b as (λ x. unless (first_of ((Because.Full, not x) ∷ [])) (desk_of s) (Answer.number s.fdt.tois.next, reserved u (desk_of s)) ≡ (if x then (Answer.number s.fdt.tois.next, reserved u (desk_of s)) else (Answer.refused Because.Full, desk_of s)))
+      ∙ elim b as (λ x. unless (first_of ((Because.Full, not x) ∷ [])) (desk_of s) (Answer.number s.fdt.tois.next, reserved u (desk_of s)) ≡ (when x then (Answer.number s.fdt.tois.next, reserved u (desk_of s)) else (Answer.refused Because.Full, desk_of s)))
       [ true ↦ refl | false ↦ refl ]
 
   reserve_room : s.fdt.tois.entered < toi_entries → (Answer.number s.fdt.tois.next, reserved u (desk_of s)) ≡ after_reserve s (Alloc.allocated_of true s.fdt.tois)

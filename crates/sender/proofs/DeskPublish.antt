@@ -7,7 +7,7 @@ use mathlib.Core.Option.{Option, none, some}
 use mathlib.Core.List.{[], ◌∷◌, map}
 use Prim.Native.Nat.{ℕ, ◌<◌}
 use lib.Dec.{eqb, leb}
-use Rattle.sizes.specs.Words.{if◌then◌else◌, first_of}
+use Rattle.sizes.specs.Words.{when◌then◌else◌, first_of}
 use Rattle.sizes.specs.Limits.{waiting_fdts}
 use Rattle.sizes.specs.Allocator as Alloc
 use Rattle.sizes.proofs.Lists.{each_all, map_comm}
@@ -51,7 +51,7 @@ unfolding Def.marked_hand
 published_hand y x =
     let m = marks_slot y in
     (λ i. hand (object_of (m.file i)) (m.listed i))
-    ∙ (elim y.listed as (λ b. y.listed ≡ b → hand (object_of (if b then published_file y.file else y.file)) y.listed ≡ (if b then hand (Def.marked (object_of y.file)) true else hand_of y x)) [
+    ∙ (elim y.listed as (λ b. y.listed ≡ b → hand (object_of (when b then published_file y.file else y.file)) y.listed ≡ (when b then hand (Def.marked (object_of y.file)) true else hand_of y x)) [
       | true ↦ λ e. (λ i. hand (published_object y.file i) (e i))
       | false ↦ λ e. refl
     ]) refl

@@ -7,7 +7,7 @@ use mathlib.Core.List.{[], ◌∷◌}
 use Prim.Native.Nat.{ℕ}
 use lib.Dec.{eqb, leb}
 use lib.ListN.{length}
-use Rattle.sizes.specs.Words.{if◌then◌else◌, maybe, any, first_of}
+use Rattle.sizes.specs.Words.{when◌then◌else◌, maybe, any, first_of}
 use Rattle.sizes.specs.Limits.{object_slots}
 use Rattle.sizes.specs.declared.partition.Sizes.{Sizes}
 use Rattle.sizes.proofs.Lists.{any_map}
@@ -76,7 +76,7 @@ no_room_view s v NamedV.Anew = λ i. full_slots s v i || full_view s v i
 -- the table: 2, and then the list's own
 pub add_refusal_view : (u : Setup) (s : Sender) → Agrees u s → ValidSender s → (o : Object) (named : Named)
     → Def.add_refusal u (desk_of s) (named_said named) (object_said o)
-    ≡ (if not (any (has_priority o.priority) (working s)) then some Because.NoPriority else refusal (added_of s.fdt (request_of o) named).answer)
+    ≡ (when not (any (has_priority o.priority) (working s)) then some Because.NoPriority else refusal (added_of s.fdt (request_of o) named).answer)
 unfolding Def.add_refusal desk_of request_of
 add_refusal_view u s a v o named =
     (λ i. first_of
@@ -87,4 +87,4 @@ add_refusal_view u s a v o named =
     ∷ (Because.NotLoose, not_loose_view s named i)
     ∷ (Because.Full, no_room_view s v named i)
     ∷ []))
-    ∙ ap (λ r. if not (any (has_priority o.priority) (working s)) then some Because.NoPriority else r) (sym (refusal_view s.fdt (request_of o) named))
+    ∙ ap (λ r. when not (any (has_priority o.priority) (working s)) then some Because.NoPriority else r) (sym (refusal_view s.fdt (request_of o) named))

@@ -10,7 +10,7 @@ use lib.Dec.{eqb, ltb}
 use lib.ListN.{length, set, get_or, take, length-set}
 use lib.Seq.{get_or-set_same, get_or-set_other, get_or-take, take-set-lt, length-take-le}
 use borrow.Author.Tests.{eqb-true, eqb-false, ltb-true, ltb-false}
-use Rattle.sizes.specs.Words.{if◌then◌else◌, maybe, over, collect, at, one_if, Counts}
+use Rattle.sizes.specs.Words.{when◌then◌else◌, maybe, over, collect, at, one_if, Counts}
 use Rattle.sizes.specs.Limits.{object_slots}
 use Rattle.sizes.proofs.Tests.{Tested, pass, fail, tested, if_on}
 use Rattle.sizes.proofs.Lists.{at_map}
@@ -103,7 +103,7 @@ at_past (a ∷ l) (suc n) (suc i) h = at_past l n i (omega arith)
 
 -- what a session adds to the slots in hand
 hand_adds : (x : SenderSession) (j : ℕ) → adds j (slot_in x) ≡ one_if (has_slot x j)
-hand_adds x j = elim x.busy as (λ b. adds j (if b then some x.slot else none) ≡ one_if (b && eqb x.slot j)) [ true ↦ refl | false ↦ refl ]
+hand_adds x j = elim x.busy as (λ b. adds j (when b then some x.slot else none) ≡ one_if (b && eqb x.slot j)) [ true ↦ refl | false ↦ refl ]
 
 -- the definition's answer is that of the code
 answer_said : (toi : ℕ) (a : Outcome) → Def.Answer.output (packet_said toi a) ≡ file_answer (answer_of false toi 0 a)
@@ -171,7 +171,7 @@ module _ (s : Sender) (v : ValidSender s) (i now : ℕ) (h : i < s.count) where
       go (pass q) = absurd (
           let l = set (working s) i (idle_of 0) in
           let a = collect_set slot_in k (working s) i x (idle_of 0) at_i in
-          let c = collect_at slot_in l j z k (at_other (working s) i j (idle_of 0) n ∙ e) (ap (λ t. if t then some k else none) b) in
+          let c = collect_at slot_in l j z k (at_other (working s) i j (idle_of 0) n ∙ e) (ap (λ t. when t then some k else none) b) in
           let d = hand_adds x k ∙ ap one_if q in
           let m = v.in_hand k in
           let o = at_most (sends (slot_at s.fdt.slots k)) in omega arith)

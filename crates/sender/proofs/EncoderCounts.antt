@@ -8,7 +8,7 @@ use Prim.Native.Nat.{ℕ, zero, suc, ◌+◌, ◌≤◌, ◌<◌}
 use native.Mathlib.Omega.{arith}
 use borrow.Author.Tests.{lt-leb}
 use lib.ListN.{length, take}
-use Rattle.sizes.specs.Words.{if◌then◌else◌, at, cut, one_if, tally}
+use Rattle.sizes.specs.Words.{when◌then◌else◌, at, cut, one_if, tally}
 use Rattle.sizes.specs.Partition.{symbols_in}
 use Rattle.sizes.specs.declared.numbers.Sbn.{Sbn}
 use Rattle.sizes.specs.declared.partition.Partition.{Partition}
@@ -91,11 +91,11 @@ valid_next x v e = valid_filled (without_of x) (valid_without x v (stuck_some x 
 pub settled_more : (x : BlockEncoder) → ValidEncoder x → stuck x ≡ true → settled (drained_count x) x ≡ settled (drained_count (filled_of (without_of x))) (filled_of (without_of x))
 settled_more x v e =
     let y = filled_of (without_of x) in
-    ap (λ n. settled n x) (count_less x v e) ∙ ap (λ b. if b then settled (drained_count y) y else x) e
+    ap (λ n. settled n x) (count_less x v e) ∙ ap (λ b. when b then settled (drained_count y) y else x) e
 
 pub settled_end : (x : BlockEncoder) → stuck x ≡ false → (n : ℕ) → settled n x ≡ x
 settled_end x e zero = refl
-settled_end x e (suc n) = ap (λ b. if b then settled n (filled_of (without_of x)) else x) e
+settled_end x e (suc n) = ap (λ b. when b then settled n (filled_of (without_of x)) else x) e
 
 -- what each leaving keeps holds in the end
 pub settled_keeps : (P : BlockEncoder → Type 0) → ((x : BlockEncoder) → stuck x ≡ true → P x → P (filled_of (without_of x))) → (n : ℕ) (x : BlockEncoder) → P x → P (settled n x)

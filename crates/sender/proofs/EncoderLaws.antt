@@ -9,7 +9,7 @@ use lib.Dec.{ltb, eqb}
 use borrow.Author.Tests.{ltb-true, ltb-false, le-ltb, lt-ltb, eqb-true, eqb-false}
 use lib.ListN.{length, set, get_or, length-set}
 use lib.Seq.{get_or-set_same, get_or-set_other}
-use Rattle.sizes.specs.Words.{if◌then◌else◌, shut}
+use Rattle.sizes.specs.Words.{when◌then◌else◌, shut}
 use Rattle.sizes.specs.Partition.{esi}
 use Rattle.sizes.proofs.Tests.{Tested, pass, fail, tested, and_left, and_right}
 use Rattle.sizes.proofs.Arithmetic.{below_or}
@@ -119,7 +119,7 @@ pub place_inside : (x : BlockEncoder) → 0 < x.filled → place_to_visit x < x.
 unfolding place_to_visit
 place_inside x h = go (tested (ltb x.index x.filled))
   where
-    go : Tested (ltb x.index x.filled) → (if ltb x.index x.filled then x.index else 0) < x.filled
+    go : Tested (ltb x.index x.filled) → (when ltb x.index x.filled then x.index else 0) < x.filled
     go (pass e) = rw e (ltb-true x.index x.filled e)
     go (fail e) = rw e h
 
@@ -128,7 +128,7 @@ pub place_low : (x : BlockEncoder) → ValidEncoder x → place_to_visit x < 16
 unfolding place_to_visit
 place_low x v = go (tested (ltb x.index x.filled))
   where
-    go : Tested (ltb x.index x.filled) → (if ltb x.index x.filled then x.index else 0) < 16
+    go : Tested (ltb x.index x.filled) → (when ltb x.index x.filled then x.index else 0) < 16
     go (pass e) = rw e (let h = ltb-true x.index x.filled e in let a = v.filled in let b = v.narrow in omega arith)
     go (fail e) = rw e (omega arith)
 

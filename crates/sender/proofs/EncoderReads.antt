@@ -8,7 +8,7 @@ use native.Mathlib.Omega.{arith}
 use lib.Dec.{eqb, ltb}
 use borrow.Author.Tests.{eqb-true, eqb-false, ne_eqb, le-ltb, lt-leb, ltb-true, not-true}
 use lib.ListN.{length, take, set}
-use Rattle.sizes.specs.Words.{if◌then◌else◌, maybe, at, all}
+use Rattle.sizes.specs.Words.{when◌then◌else◌, maybe, at, all}
 use Rattle.sizes.specs.Limits.{largest_block}
 use Rattle.sizes.specs.Partition.{blocks_of, symbols_in}
 use Rattle.sizes.specs.declared.partition.Partition.{Partition}
@@ -54,7 +54,7 @@ module _ (k : ℕ) (force : Bool) where
 
   -- a block is drained and leaves, or gives a symbol
   abbrev chosen : ℕ → Content → Def.Encoder → ℕ → Def.Open → Bool → Option Def.Symbol × Def.Encoder
-  chosen w c y i o b = if b then visits w c (Def.without y i) else (some (Def.symbol_of c.part c.sizes force o (Def.advanced y i o)), Def.advanced y i o)
+  chosen w c y i o b = when b then visits w c (Def.without y i) else (some (Def.symbol_of c.part c.sizes force o (Def.advanced y i o)), Def.advanced y i o)
 
   -- the block to visit has been looked up
   abbrev looked : ℕ → Content → Def.Encoder → ℕ → Option Def.Open → Option Def.Symbol × Def.Encoder

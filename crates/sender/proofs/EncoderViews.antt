@@ -10,7 +10,7 @@ use lib.Dec.{ltb, eqb, leb}
 use borrow.Author.Tests.{leb-false, ltb-true, lt-ltb}
 use lib.ListN.{length, set, take, length-map, length-set}
 use lib.Seq.{append_snoc, length-take-le, get_or-take, get_or-set_other, take-set-lt, take-suc-set}
-use Rattle.sizes.specs.Words.{if◌then◌else◌, all, over, at, cut}
+use Rattle.sizes.specs.Words.{when◌then◌else◌, all, over, at, cut}
 use Rattle.sizes.specs.Partition.{sbn, esi, symbols_in, first_symbol}
 use Rattle.sizes.specs.declared.partition.Partition.{Partition}
 use Rattle.sizes.proofs.Tests.{and_left, and_right}
@@ -43,7 +43,7 @@ module _ (x : BlockEncoder) (v : ValidEncoder x) where
   -- the place to visit is the definition's
   pub place_view : place_to_visit x ≡ Def.wrapped (encoder_of x)
   unfolding place_to_visit Def.wrapped
-  place_view = ap (λ n. if ltb x.index n then x.index else 0) (sym open_count)
+  place_view = ap (λ n. when ltb x.index n then x.index else 0) (sym open_count)
 
 -- with no block open there is none at any place
 pub open_none : (x : BlockEncoder) → x.filled ≡ 0 → (i : ℕ) → at (opened_blocks x) i ≡ none
@@ -190,7 +190,7 @@ module _ (x : BlockEncoder) (v : ValidEncoder x) (h : 0 < x.filled) (force : Boo
 abbrev pub said : Read → Option Def.Symbol × Def.Encoder
 said r = (emitted_said r.answer, encoder_of r.encoder)
 
-pub if_both : {A B : Type 0} (f : A → B) (b : Bool) {a a' : A} {c c' : B} → f a ≡ c → f a' ≡ c' → f (if b then a else a') ≡ (if b then c else c')
+pub if_both : {A B : Type 0} (f : A → B) (b : Bool) {a a' : A} {c c' : B} → f a ≡ c → f a' ≡ c' → f (when b then a else a') ≡ (when b then c else c')
 if_both f true p q = p
 if_both f false p q = q
 

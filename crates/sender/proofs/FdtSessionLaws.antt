@@ -5,7 +5,7 @@ use mathlib.Core.List.{[], ◌∷◌}
 use mathlib.Core.Bool.{Bool, true, false, ◌||◌, true≢false, false≢true}
 use Prim.Native.Nat.{ℕ, ◌+◌, ◌≤◌, ◌<◌}
 use native.Mathlib.Omega.{arith}
-use Rattle.sizes.specs.Words.{if◌then◌else◌, first_of}
+use Rattle.sizes.specs.Words.{when◌then◌else◌, first_of}
 use Rattle.sizes.specs.Limits.{wide, longest_store, largest_window}
 use Rattle.sizes.specs.declared.refusal.Refusal.{Refusal}
 use Rattle.sizes.specs.declared.refusal.Refusal.TheVariants as Because
@@ -104,11 +104,11 @@ fdt_holds_published now c f n h = parts_hold (publish_of now c f).fdt (valid_pub
 -- ---- a round
 
 -- a choice whose test is known
-if_yes : {A : Type 0} (b : Bool) (x y : A) → b ≡ true → x ≡ (if b then x else y)
+if_yes : {A : Type 0} (b : Bool) (x y : A) → b ≡ true → x ≡ (when b then x else y)
 if_yes true x y e = refl
 if_yes false x y e = absurd (false≢true e)
 
-if_no : {A : Type 0} (b : Bool) (x y : A) → b ≡ false → y ≡ (if b then x else y)
+if_no : {A : Type 0} (b : Bool) (x y : A) → b ≡ false → y ≡ (when b then x else y)
 if_no true x y e = absurd (true≢false e)
 if_no false x y e = refl
 
@@ -164,11 +164,11 @@ module _ (w now : ℕ) (draft : Draft) (taken : Bool) (f : Fdt) (x : FdtSession)
   attempted_busy e = if_yes x.busy _ _ e
 
   attempted_free : x.busy ≡ false → (b : Bool) (n : NextFdt) → n ≡ asked → n.starts ≡ b
-      → fdt_sent_of now (taken || n.taken) n.fdt (if b then starting n else x) ≡ fdt_attempted_of w now draft taken f x
+      → fdt_sent_of now (taken || n.taken) n.fdt (when b then starting n else x) ≡ fdt_attempted_of w now draft taken f x
   unfolding fdt_attempted_of
   attempted_free e b n q s =
-      ap (λ b. fdt_sent_of now (taken || n.taken) n.fdt (if b then starting n else x)) (sym s)
-      ∙ ap (λ (n : NextFdt). fdt_sent_of now (taken || n.taken) n.fdt (if n.starts then starting n else x)) q
+      ap (λ b. fdt_sent_of now (taken || n.taken) n.fdt (when b then starting n else x)) (sym s)
+      ∙ ap (λ (n : NextFdt). fdt_sent_of now (taken || n.taken) n.fdt (when n.starts then starting n else x)) q
       ∙ if_no x.busy _ _ e
 
   pub attempted_left : x.busy ≡ false → (n : NextFdt) → n ≡ asked → n.starts ≡ false
@@ -207,7 +207,7 @@ module _ (w now : ℕ) (draft : Draft) (taken : Bool) (f : Fdt) (x : FdtSession)
     pub attempted_tries : FdtTries (fdt_attempted_of w now draft taken f x).fdt w draft (fdt_attempted_of w now draft taken f x).session
     unfolding fdt_attempted_of
     attempted_tries = if_on (λ (r : FdtTurn). FdtTries r.fdt w draft r.session) x.busy (λ e. sent_tries now taken f x w draft t) (λ e.
-        sent_tries now (taken || asked.taken) asked.fdt (if asked.starts then starting asked else x) w draft
+        sent_tries now (taken || asked.taken) asked.fdt (when asked.starts then starting asked else x) w draft
         (if_on (FdtTries asked.fdt w draft) asked.starts (λ s. begun_tries asked refl s) (λ s. left_tries asked refl)))
 
 -- ---- a run

@@ -4,7 +4,7 @@ use mathlib.Core.Bool.{Bool, true, false, ◌||◌, true≢false, false≢true}
 use mathlib.Core.Option.{Option, none, some}
 use mathlib.Core.List.{List}
 use Prim.Native.Nat.{ℕ, ◌≤◌}
-use Rattle.sizes.specs.Words.{if◌then◌else◌, given}
+use Rattle.sizes.specs.Words.{when◌then◌else◌, given}
 use Rattle.sizes.specs.Limits.{largest_window}
 use Rattle.sizes.specs.declared.partition.Sizes.{Sizes}
 use Rattle.sizes.proofs.Tests.{Tested, pass, fail, tested}
@@ -52,7 +52,7 @@ done_view now f = ap (λ s. record { state = s; hand = none }) (ap state_of (fdt
 -- ---- the next FDT
 
 -- a draft that was taken is not there any more
-draft_left : (draft : Draft) (taken : Bool) → draft_given (left_of draft taken) ≡ (if taken then none else draft_given draft)
+draft_left : (draft : Draft) (taken : Bool) → draft_given (left_of draft taken) ≡ (when taken then none else draft_given draft)
 draft_left draft true = refl
 draft_left draft false = refl
 
@@ -67,10 +67,10 @@ marked_once false b t h = refl
 
 -- the session with the FDT that starts, or as it was
 abbrev begins : ℕ → Sizes → FdtSession → Announcer → Bool → FdtSession
-begins w z x a b = if b then fdt_begun_of w a.current.id a.current.part z else x
+begins w z x a b = when b then fdt_begun_of w a.current.id a.current.part z else x
 
 begins_hand : (w : ℕ) (z : Sizes) (x : FdtSession) (a : Announcer) (b : Bool) → x.busy ≡ false
-    → fdt_hand_of (begins w z x a b) ≡ Def.fdt_begun (if b then some (instance_of a.current) else none)
+    → fdt_hand_of (begins w z x a b) ≡ Def.fdt_begun (when b then some (instance_of a.current) else none)
 unfolding fdt_begun_of new_of
 begins_hand w z x a true e = refl
 begins_hand w z x a false e = rw e
@@ -101,8 +101,8 @@ module _ (u : Setup) (w now : ℕ) (f : Fdt) (set : SetFor u w f.settings) (h : 
   asked_state : state_of (next_fdt_of now draft f).fdt.announcer ≡ asked.state
   asked_state = ap state_of (next_fdt_side now draft f) ∙ Laws.next_state f.announcer h.valid.fdts u (fdt_plan_of f.settings.from_start f.settings.interval) f.settings.validity now draft set.validity planned
 
-  asked_starts : (if (next_fdt_of now draft f).starts then some (instance_of (next_fdt_of now draft f).fdt.announcer.current) else none) ≡ asked.starts
-  asked_starts = (λ i. if next_fdt_starts now draft f i then some (instance_of (next_fdt_side now draft f i).current) else none)
+  asked_starts : (when (next_fdt_of now draft f).starts then some (instance_of (next_fdt_of now draft f).fdt.announcer.current) else none) ≡ asked.starts
+  asked_starts = (λ i. when next_fdt_starts now draft f i then some (instance_of (next_fdt_side now draft f i).current) else none)
       ∙ Laws.next_starts f.announcer h.valid.fdts u (fdt_plan_of f.settings.from_start f.settings.interval) f.settings.validity now draft set.validity planned
 
 -- ---- a round
@@ -130,8 +130,8 @@ module _ (u : Setup) (w now : ℕ) (g : Fdt) (set : SetFor u w g.settings) where
 
       -- both rounds, by whether an FDT is in hand
       P : Bool → Type 0
-      P b = FdtRounds w g (Def.fdt_round_with u now taken (state_of f.announcer) (if b then some handed else none))
-          (if b then fdt_sent_by now taken f x r.encoder r.answer else record { taken = taken; answer = Idle; fdt = f; session = x })
+      P b = FdtRounds w g (Def.fdt_round_with u now taken (state_of f.announcer) (when b then some handed else none))
+          (when b then fdt_sent_by now taken f x r.encoder r.answer else record { taken = taken; answer = Idle; fdt = f; session = x })
 
       -- the definition's, by what is read
       round_by : Option DefEncoder.Symbol × DefEncoder.Encoder → Def.FdtRound
@@ -144,7 +144,7 @@ module _ (u : Setup) (w now : ℕ) (g : Fdt) (set : SetFor u w g.settings) where
         view = λ i. record {
           taken = taken;
           packet = some record { id = some x.id; toi = 0; symbol = symbol_said s };
-          fdt = record { state = state_of f.announcer; hand = if sym b i then some record { id = x.id; part = (sym m.content i).part; encoder = encoder_of r.encoder } else none };
+          fdt = record { state = state_of f.announcer; hand = when sym b i then some record { id = x.id; part = (sym m.content i).part; encoder = encoder_of r.encoder } else none };
         };
         holds = re.holds;
         stands = record {
@@ -157,7 +157,7 @@ module _ (u : Setup) (w now : ℕ) (g : Fdt) (set : SetFor u w g.settings) where
 
       go : Tested x.busy → P x.busy
       go (fail b) = subst P (sym b) (waits (record {
-        view = λ i. record { taken = taken; packet = none; fdt = record { state = state_of f.announcer; hand = if sym b i then some handed else none } };
+        view = λ i. record { taken = taken; packet = none; fdt = record { state = state_of f.announcer; hand = when sym b i then some handed else none } };
         holds = re.holds;
         stands = st;
         slots = re.slots;
@@ -197,7 +197,7 @@ module _ (u : Setup) (w now : ℕ) (g : Fdt) (set : SetFor u w g.settings) where
     abbrev after_next : Option Part → Bool × Def.Fdt
     after_next o = let d = DefState.next_fdt u now o (state_of f.announcer) in (taken || d.taken, record { state = d.state; hand = Def.fdt_begun d.starts })
 
-    next_same : x.busy ≡ false → (taken || n.taken, fdt_of n.fdt y) ≡ after_next (if taken then none else draft_given draft)
+    next_same : x.busy ≡ false → (taken || n.taken, fdt_of n.fdt y) ≡ after_next (when taken then none else draft_given draft)
     next_same b =
         (λ i. (
           taken || asked_taken u w now f set_here re.holds (left_of draft taken) i,
@@ -218,8 +218,8 @@ module _ (u : Setup) (w now : ℕ) (g : Fdt) (set : SetFor u w g.settings) where
 
         -- both rounds, by whether an FDT is in hand
         P : Bool → Type 0
-        P b = FdtRounds w g (round_by (if given (if b then fdt_hand_of (record { busy = true; id = x.id; encoder = x.encoder }) else none) then (taken, fdt_of f x) else after_next (if taken then none else draft_given draft)))
-            (if b then fdt_sent_of now taken f x else fdt_sent_of now (taken || n.taken) n.fdt y)
+        P b = FdtRounds w g (round_by (when given (when b then fdt_hand_of (record { busy = true; id = x.id; encoder = x.encoder }) else none) then (taken, fdt_of f x) else after_next (when taken then none else draft_given draft)))
+            (when b then fdt_sent_of now taken f x else fdt_sent_of now (taken || n.taken) n.fdt y)
 
         go : Tested x.busy → P x.busy
         go (pass b) = subst P (sym b) (sent_round taken f x re st)

@@ -6,7 +6,7 @@ use native.Mathlib.Nat.{le-mul_of_pos_right, mul-le-mul_right}
 use native.Mathlib.Omega.{arith}
 use borrow.Author.Tests.{leb-false}
 use Rattle.sizes.specs.Limits.{largest_block}
-use Rattle.sizes.specs.Partition.{sbn, symbols_of, symbols_in, first_symbol}
+use Rattle.sizes.specs.Partition.{symbols_of, symbols_in, first_symbol}
 use Rattle.sizes.specs.PartitionPromises.{Parted}
 use Rattle.sizes.proofs.Arithmetic.{one_more}
 use Rattle.sizes.proofs.PartitionLaws.{parted, parted_bytes, rises}

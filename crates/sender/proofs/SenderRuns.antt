@@ -6,7 +6,7 @@ use mathlib.Core.List.{List, [], ◌∷◌, map}
 use Prim.Native.Nat.{ℕ}
 use lib.Dec.{ltb}
 use lib.ListN.{length, get_or}
-use Rattle.sizes.specs.Words.{if◌then◌else◌, given, any}
+use Rattle.sizes.specs.Words.{when◌then◌else◌, given, any}
 use Rattle.sizes.specs.Limits.{most_sessions}
 use Rattle.sizes.specs.Allocator as Alloc
 use Rattle.sizes.specs.declared.refusal.Refusal.{Refusal}
@@ -97,8 +97,8 @@ module _ (u : DefSetup) (p : ℕ) where
   calls_view j s v w (c ∷ l) =
       let k = answered_kept s v c in
       let b = about p (desk_of s) (call_said c) in
-      ap (λ (x : List Def.Call). if b then call_by (key j) (call_said c) ∷ x else x) (calls_view (got_after p (call_said c) (answered s c).0 j) (answered s c).1 k.valid (k.agrees u w) l)
-      ∙ ap (λ (x : Def.Result). if b then call_by (key j) (call_said c) ∷ Apart.calls u p (got_after p (call_said c) x.0 j) x.1 (map call_said l) else Apart.calls u p (got_after p (call_said c) x.0 j) x.1 (map call_said l)) (sym (k.means u w))
+      ap (λ (x : List Def.Call). when b then call_by (key j) (call_said c) ∷ x else x) (calls_view (got_after p (call_said c) (answered s c).0 j) (answered s c).1 k.valid (k.agrees u w) l)
+      ∙ ap (λ (x : Def.Result). when b then call_by (key j) (call_said c) ∷ Apart.calls u p (got_after p (call_said c) x.0 j) x.1 (map call_said l) else Apart.calls u p (got_after p (call_said c) x.0 j) x.1 (map call_said l)) (sym (k.means u w))
 
   pub answers_view : (j : List ℕ) (s : Sender) → ValidSender s → Agrees u s → (l : List SenderCall) → code_answers p j s l ≡ Apart.answers u p j (desk_of s) (map call_said l)
   unfolding code_answers Apart.answers
@@ -107,9 +107,9 @@ module _ (u : DefSetup) (p : ℕ) where
       let k = answered_kept s v c in
       let b = about p (desk_of s) (call_said c) in
       let j' = got_after p (call_said c) (answered s c).0 j in
-      ap (λ (x : List Def.Answer). if b then answer_by (key j') (answered s c).0 ∷ x else x) (answers_view j' (answered s c).1 k.valid (k.agrees u w) l)
+      ap (λ (x : List Def.Answer). when b then answer_by (key j') (answered s c).0 ∷ x else x) (answers_view j' (answered s c).1 k.valid (k.agrees u w) l)
       ∙ ap (λ (x : Def.Result).
-      if b then answer_by (key (got_after p (call_said c) x.0 j)) x.0 ∷ Apart.answers u p (got_after p (call_said c) x.0 j) x.1 (map call_said l)
+      when b then answer_by (key (got_after p (call_said c) x.0 j)) x.0 ∷ Apart.answers u p (got_after p (call_said c) x.0 j) x.1 (map call_said l)
       else Apart.answers u p (got_after p (call_said c) x.0 j) x.1 (map call_said l)) (sym (k.means u w))
 
   pub smooth_view : (s : Sender) → ValidSender s → Agrees u s → (l : List SenderCall) → code_smooth p s l ≡ Apart.smooth u p (desk_of s) (map call_said l)

@@ -1,12 +1,10 @@
 -- Laws of the file sessions: every call of the list keeps its objects good, an object that is taken in hand is ready, and a run goes by cases.
 use mathlib.Core.Path.{◌≡◌, refl, sym, ◌∙◌, ap}
 use mathlib.Core.Bool.{true, false, ◌||◌}
-use mathlib.Core.Logic.{◌⊎◌, inl, inr}
 use Prim.Native.Nat.{ℕ, ◌≤◌, ◌<◌}
 use native.Mathlib.Omega.{arith}
 use borrow.Author.Tests.{eq-eqb}
-use denote.Enum.Declared.{tag_of}
-use Rattle.sizes.specs.Words.{if◌then◌else◌}
+use Rattle.sizes.specs.Words.{when◌then◌else◌}
 use Rattle.sizes.specs.Limits.{object_slots, largest_window, longest_store}
 use Rattle.sizes.proofs.Tables.{inside}
 use Rattle.lifecycle.specs.FileDesc.{with_life}
@@ -35,17 +33,15 @@ use Rattle.sender.specs.declared.sendersession.SenderSession.{SenderSession}
 use Rattle.sender.specs.declared.sendersession.Outcome.{Outcome}
 use Rattle.sender.specs.declared.sendersession.Outcome.TheVariants.{Idle, Sent, Over}
 use Rattle.sender.specs.declared.sendersession.Turn.{Turn}
-use Rattle.sender.specs.contracts.sendersession.Outcome.{the_type}
 use Rattle.sender.proofs.SessionTakes.{begun_valid}
 
 -- ---- what a session comes to
 
 -- what holds where nothing is sent, and where a symbol is, holds where the transfer is not over
-pub not_over : (P : Outcome → Type 0) (a : Outcome) → (tag_of the_type a ≡ 0) ⊎ (tag_of the_type a ≡ 1) → P Idle → ((s : Symbol) → P (Sent s)) → P a
+pub not_over : (P : Outcome → Type 0) (a : Outcome) → (a ≡ Over → ⊥) → P Idle → ((s : Symbol) → P (Sent s)) → P a
 not_over P Idle h i s = i
 not_over P (Sent y) h i s = s y
-not_over P Over (inl e) i s = absurd (omega arith)
-not_over P Over (inr e) i s = absurd (omega arith)
+not_over P Over h i s = absurd (h refl)
 
 -- ---- every call of the list keeps its objects good
 
@@ -137,9 +133,9 @@ module _ (w now : ℕ) (f : Fdt) (x : SenderSession) where
   pub ran_busy : x.busy ≡ true → (a : Turn) → a ≡ attended_of now f x → ran_of w now f x ≡ again_by w now a a.answer
   unfolding ran_of
   ran_busy e a h =
-      ap (λ b. if b then again_by w now (attended_of now f x) (attended_of now f x).answer else taken_on_of w now f x) e
+      ap (λ b. when b then again_by w now (attended_of now f x) (attended_of now f x).answer else taken_on_of w now f x) e
       ∙ ap (λ (r : Turn). again_by w now r r.answer) (sym h)
 
   pub ran_idle : x.busy ≡ false → ran_of w now f x ≡ taken_on_of w now f x
   unfolding ran_of
-  ran_idle e = ap (λ b. if b then again_by w now (attended_of now f x) (attended_of now f x).answer else taken_on_of w now f x) e
+  ran_idle e = ap (λ b. when b then again_by w now (attended_of now f x) (attended_of now f x).answer else taken_on_of w now f x) e

@@ -6,7 +6,7 @@ use mathlib.Core.List.{List, [], ◌∷◌, ◌++◌, map}
 use Prim.Native.Nat.{ℕ}
 use lib.Dec.{eqb}
 use borrow.Author.Tests.{eqb-true}
-use Rattle.sizes.specs.Words.{if◌then◌else◌}
+use Rattle.sizes.specs.Words.{when◌then◌else◌}
 use Rattle.sizes.proofs.Tests.{and_right}
 use Rattle.sizes.proofs.Lists.{map_append}
 use Rattle.lifecycle.specs.Lifecycle.{too_early}
@@ -53,9 +53,9 @@ after x y = record { priority = x.priority; busy = x.busy; slot = x.slot; pace =
 
 -- it goes back where the definition puts it back
 back_same : (now : ℕ) (v : Slot) (x : SenderSession) (b : Bool) → goes_back now v ≡ b → (q : List Def.Object)
-    → Def.put_back now (hand_of v x) q ≡ (if b then q ++ (object_of (ended_file now v) ∷ []) else q)
+    → Def.put_back now (hand_of v x) q ≡ (when b then q ++ (object_of (ended_file now v) ∷ []) else q)
 unfolding Def.put_back
-back_same now v x b e q = λ i. if (sym (goes_back_as now v) ∙ e) i then q ++ (Def.living (sym (life_done now v.file.life) i) (object_of v.file) ∷ []) else q
+back_same now v x b e q = λ i. when (sym (goes_back_as now v) ∙ e) i then q ++ (Def.living (sym (life_done now v.file.life) i) (object_of v.file) ∷ []) else q
 
 module _ (now w : ℕ) (f : Fdt) (g : Holds f) (x : SenderSession) (h : InHand f w x) where
   -- what waits after the end of the transfer
@@ -70,7 +70,7 @@ module _ (now w : ℕ) (f : Fdt) (g : Holds f) (x : SenderSession) (h : InHand f
   module _ (b : x.busy ≡ true) where
     -- it stays in hand
     still_view : Def.idle (queue_of f) (some (in_hand f x)) ≡ turn_of (record { answer = Idle; fdt = f; session = x })
-    still_view = ap (λ c. Def.idle (queue_of f) (if c then some (in_hand f x) else none)) (sym b)
+    still_view = ap (λ c. Def.idle (queue_of f) (when c then some (in_hand f x) else none)) (sym b)
 
     -- a symbol of it was sent
     sent_view : (s : Symbol) (y : BlockEncoder) → Def.sent (queue_of f) (in_hand f x) (encoder_of y) (symbol_said s) ≡ turn_of (record { answer = Sent s; fdt = f; session = after x y })
@@ -78,7 +78,7 @@ module _ (now w : ℕ) (f : Fdt) (g : Holds f) (x : SenderSession) (h : InHand f
     sent_view s y = λ i. record {
       packet = some record { id = none; toi = (file_at f.slots x.slot).toi; symbol = symbol_said s };
       queue = queue_of f;
-      hand = if sym b i then some record {
+      hand = when sym b i then some record {
         object = object_of (file_at f.slots x.slot);
         listed = (slot_at f.slots x.slot).listed;
         encoder = encoder_of y;
@@ -181,13 +181,13 @@ module _ (u : Setup) (now w : ℕ) (window : u.window ≡ w) (f : Fdt) (g : Hold
 
       -- the definition's round, by whether an FDT is queued, whether it is too early, and what is read
       round_by : Bool → Bool → Option DefEncoder.Symbol × DefEncoder.Encoder → Def.Round
-      round_by queued early z = if queued then Def.Round.over still else if early then Def.Round.over still
+      round_by queued early z = when queued then Def.Round.over still else when early then Def.Round.over still
           else elim z.0 [ none ↦ Def.Round.again (Def.put_back now (in_hand f x) (queue_of f)) | some y ↦ Def.Round.over (Def.sent (queue_of f) (in_hand f x) z.1 y) ]
 
       -- the code's
       ran_after : Bool → Bool → Emitted → Turn
       ran_after queued early a =
-          let s : Serving = if queued || early then record { answer = Idle; session = x } else service_by x r.encoder a in
+          let s : Serving = when queued || early then record { answer = Idle; session = x } else service_by x r.encoder a in
           ran_by now f x s.session s.answer
 
       resting : Rounds w f x (Def.Round.over still) (record { answer = Idle; fdt = f; session = x })

@@ -4,7 +4,7 @@ use mathlib.Core.Bool.{Bool, true, false}
 use mathlib.Core.Option.{Option, none, some}
 use mathlib.Core.List.{List, [], ◌∷◌, map}
 use Prim.Native.Nat.{ℕ, suc, ◌≤◌}
-use Rattle.sizes.specs.Words.{if◌then◌else◌, over, at, cut, find, drop_first}
+use Rattle.sizes.specs.Words.{when◌then◌else◌, over, at, find, drop_first}
 use Rattle.sizes.specs.Limits.{largest_window}
 use Rattle.sizes.proofs.Tests.{none≢some}
 use Rattle.sizes.proofs.Lists.{at_map}
@@ -34,11 +34,11 @@ use Rattle.sender.proofs.EncoderPromises.{new_sound}
 module _ {A : Type 0} (ok other : A → Bool) where
   find_in : (l : List A) → ((i : ℕ) (a : A) → at l i ≡ some a → ok a ≡ other a) → find ok l ≡ find other l
   find_in [] h = refl
-  find_in (a ∷ l) h = λ i. if h 0 a refl i then some a else find_in l (λ n. h (suc n)) i
+  find_in (a ∷ l) h = λ i. when h 0 a refl i then some a else find_in l (λ n. h (suc n)) i
 
   drop_in : (l : List A) → ((i : ℕ) (a : A) → at l i ≡ some a → ok a ≡ other a) → drop_first ok l ≡ drop_first other l
   drop_in [] h = refl
-  drop_in (a ∷ l) h = λ i. if h 0 a refl i then l else a ∷ drop_in l (λ n. h (suc n)) i
+  drop_in (a ∷ l) h = λ i. when h 0 a refl i then l else a ∷ drop_in l (λ n. h (suc n)) i
 
 over_some : {A B : Type 0} (f : A → B) (o : Option A) (b : B) → over f o ≡ some b → (a : A) × (o ≡ some a) × (f a ≡ b)
 over_some f none b e = absurd (none≢some e)

@@ -7,7 +7,7 @@ use Prim.Native.Nat.{ℕ, ◌+◌, ◌≤◌}
 use native.Mathlib.Omega.{arith}
 use lib.Dec.{eqb}
 use borrow.Author.Tests.{eqb-true, eq-eqb, ne_eqb}
-use Rattle.sizes.specs.Words.{if◌then◌else◌, over, cut, place, drop_first, one_if, times, Counts}
+use Rattle.sizes.specs.Words.{when◌then◌else◌, over, cut, place, drop_first, one_if, times, Counts}
 use Rattle.sizes.proofs.Lists.{Hit}
 use Rattle.sizes.specs.Limits.{largest_window}
 use Rattle.sizes.proofs.Tests.{Tested, pass, fail, tested, and_left}
@@ -45,7 +45,7 @@ use Rattle.sender.proofs.SessionTakes.{find_startable, drop_startable, begun_han
 nothing_means : (w : ℕ) (f : Fdt) → Holds f → (x : SenderSession) → x ≡ idle_of x.priority → (a : Outcome) → ((t : ℕ) → packet_said t a ≡ none)
     → FileRuns w f x (Def.idle (queue_of f) none) (record { answer = a; fdt = f; session = x })
 nothing_means w f g x e a p = record {
-  view = λ i. record { packet = sym (p (file_at f.slots x.slot).toi) i; queue = queue_of f; hand = if sym c i then some (in_hand f x) else none };
+  view = λ i. record { packet = sym (p (file_at f.slots x.slot).toi) i; queue = queue_of f; hand = when sym c i then some (in_hand f x) else none };
   holds = g;
   stands = record { busy = λ t. absurd (false≢true (sym c ∙ t)); idle = λ t. e };
   priority = refl;
@@ -186,8 +186,8 @@ module _ (u : Setup) (w now : ℕ) (window : u.window ≡ w) (f : Fdt) (x : Send
     where
       -- both runs, by whether an object is in hand
       P : Bool → Type 0
-      P b = FileRuns w f x (Def.file_run u x.priority now (waits_of f.announcer) (queue_of f) (if b then some (in_hand f x) else none))
-          (if b then again_by w now (attended_of now f x) (attended_of now f x).answer else taken_on_of w now f x)
+      P b = FileRuns w f x (Def.file_run u x.priority now (waits_of f.announcer) (queue_of f) (when b then some (in_hand f x) else none))
+          (when b then again_by w now (attended_of now f x) (attended_of now f x).answer else taken_on_of w now f x)
 
       go : Tested x.busy → P x.busy
       go (fail b) = subst P (sym b) (taken_on_means u w now window runs.narrow f runs.holds x (st.idle b))
@@ -239,7 +239,7 @@ module _ (u : Setup) (w now : ℕ) (window : u.window ≡ w) (f : Fdt) (x : Send
       where
         -- the session in the definition's words, by whether an object is in hand
         S : Slot → Bool → Def.Session
-        S v b = record { priority = z.priority; hand = if b then some (hand_of v z) else none }
+        S v b = record { priority = z.priority; hand = when b then some (hand_of v z) else none }
 
         go : Tested z.busy → session_of (ran_of w now f x).fdt.slots z ≡ session_of f.slots z
         go (pass b) = ap (λ v. S v z.busy) (other_slot b)

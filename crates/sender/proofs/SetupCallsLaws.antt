@@ -11,7 +11,7 @@ use lib.Seq.{length-take-le}
 use borrow.Author.Tests.{eqb-true, eqb-false, ne_eqb, le-leb, le-ltb, leb-true}
 use mir.Syntax.{w32}
 use mir.Val.{Fits}
-use Rattle.sizes.specs.Words.{if◌then◌else◌, all, has, within, collect, one_if, times}
+use Rattle.sizes.specs.Words.{when◌then◌else◌, all, has, within, collect, one_if, times}
 use Rattle.sizes.specs.Limits.{most_sessions, largest_priority, longest_store}
 use Rattle.sizes.specs.Allocator as Alloc
 use Rattle.sizes.specs.declared.toiallocator.ToiAllocator.{ToiAllocator}
@@ -160,7 +160,7 @@ no_hands (suc n) (p ∷ l) = no_hands n l
 module _ (l : List ℕ) (n : ℕ) where
   past : (i : ℕ) → n ≤ i → idle_of (priority_at l n i) ≡ idle_of 0
   unfolding priority_at
-  past i h = ap (λ t. idle_of (if t then get_or l i 0 else 0)) (le-ltb i n h)
+  past i h = ap (λ t. idle_of (when t then get_or l i 0 else 0)) (le-ltb i n h)
 
   four_spare : (i : ℕ) → n ≤ i → get_or (four (priority_at l n)) i (idle_of 0) ≡ idle_of 0
   four_spare zero h = past 0 h
@@ -206,7 +206,7 @@ module _ (z : Setup) (long : length z.priorities ≡ most_sessions) (ok : sound 
   unfolding desk_of opening_sender Def.opening
   desk_opened =
       let o = opened_list in
-      let q : (if leb z.count most_sessions then take z.count z.priorities else replicate z.count 0) ≡ take z.count z.priorities = rw (le-leb z.count most_sessions few) in
+      let q : (when leb z.count most_sessions then take z.count z.priorities else replicate z.count 0) ≡ take z.count z.priorities = rw (le-leb z.count most_sessions few) in
       let e = named (opening_sender z).fdt.slots z.priorities z.count long few ∙ sym (ap (map (λ p. record { priority = p; hand = none })) q) in
       let n = ap (λ (a : ToiAllocator). a.next) o.tois ∙ (opened_next z.width z.first_toi).0 in
       let l = ap Alloc.loose o.tois ∙ (opened_view z.width z.first_toi).0 in
@@ -233,7 +233,7 @@ module _ (z : Setup) (long : length z.priorities ≡ most_sessions) (ok : sound 
         validity = ap (λ (x : Settings). x.validity) x;
       }
     where
-      by_carousel : (k : FdtCarousel) → carousel_said k ≡ (if is_interval k then Life.Carousel.interval (interval_in k) else Life.Carousel.delay (interval_in k))
+      by_carousel : (k : FdtCarousel) → carousel_said k ≡ (when is_interval k then Life.Carousel.interval (interval_in k) else Life.Carousel.delay (interval_in k))
       by_carousel (CarouselV.Delay t) = refl
       by_carousel (CarouselV.Interval t) = refl
 

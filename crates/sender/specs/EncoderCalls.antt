@@ -1,7 +1,7 @@
 -- The encoder as the code has it: what it means, and what each function makes of it.
 use Rattle.std.specs.Prelude.{◌≡◌, Bool, true, false, not, ◌&&◌, ◌||◌, List, map, ℕ, zero, suc, ◌+◌, ◌-◌, ◌*◌, ◌≤◌, ◌<◌, min, eqb, ltb, leb, length, get_or, take, set, replicate}
 use Rattle.std.proofs.Math.Option.{Option, none, some}
-use Rattle.sizes.specs.Words.{if◌then◌else◌, all, shut, tally}
+use Rattle.sizes.specs.Words.{when◌then◌else◌, all, shut, tally}
 use Rattle.sizes.specs.Limits.{wide, largest_block, largest_window}
 use Rattle.sizes.specs.Partition.{sbn, esi, blocks_of, symbols_in, first_symbol}
 use Rattle.sizes.specs.declared.partition.Sizes.{Sizes}
@@ -123,7 +123,7 @@ filled_of x = blocks_opened (min (x.width - x.filled) (x.content.partition.block
 
 -- an index past the end becomes 0
 unfoldable pub place_to_visit : BlockEncoder → ℕ
-place_to_visit x = if ltb x.index x.filled then x.index else 0
+place_to_visit x = when ltb x.index x.filled then x.index else 0
 
 -- has the block to visit no symbol left
 unfoldable pub stuck : BlockEncoder → Bool
@@ -140,7 +140,7 @@ drained_count x = tally (is_empty x.content.partition) (take x.filled x.window)
 -- drained blocks leave where they are visited, n at most, and the window is filled again
 abbrev pub settled : ℕ → BlockEncoder → BlockEncoder
 settled zero x = x
-settled (suc n) x = if stuck x then settled n (filled_of (without_of x)) else x
+settled (suc n) x = when stuck x then settled n (filled_of (without_of x)) else x
 
 -- as many as there are
 unfoldable pub ready_of : BlockEncoder → BlockEncoder
@@ -187,7 +187,7 @@ midway x = not x.stopped && x.begun && not (has_room x) && not (eqb x.filled 0) 
 
 -- the next symbol, where reading it only moves its block and the index on
 unfoldable pub glance_of : BlockEncoder → Glance
-glance_of x = if midway x then GlanceV.One (visit_of false x) else GlanceV.Other
+glance_of x = when midway x then GlanceV.One (visit_of false x) else GlanceV.Other
 
 -- a symbol was read, and the index moves on
 unfoldable pub moved_of : BlockEncoder → Visit → BlockEncoder
@@ -206,7 +206,7 @@ moved_of x v = record {
 -- with no block open: the one packet of an empty object, or none
 unfoldable pub emptied_of : BlockEncoder → Read
 emptied_of x =
-    if x.begun || not (eqb x.content.part.size 0) then record { answer = Nothing; encoder = x }
+    when x.begun || not (eqb x.content.part.size 0) then record { answer = Nothing; encoder = x }
     else record {
       answer = One record { sbn = sbn 0; esi = esi 0; symbols = 0; payload = record { start = x.content.part.start; size = 0 }; transfer_length = 0; close = true };
       encoder = record { content = x.content; width = x.width; closable = x.closable; begun = true; stopped = x.stopped; next = x.next; filled = x.filled; index = x.index; window = x.window };
@@ -218,10 +218,10 @@ stopping_of force x = record { content = x.content; width = x.width; closable = 
 
 -- from a window that is ready
 unfoldable pub emitted_of : Bool → BlockEncoder → Read
-emitted_of force x = if eqb x.filled 0 then emptied_of x else record { answer = One (visit_of force x).symbol; encoder = moved_of x (visit_of force x) }
+emitted_of force x = when eqb x.filled 0 then emptied_of x else record { answer = One (visit_of force x).symbol; encoder = moved_of x (visit_of force x) }
 
 unfoldable pub read_of : Bool → BlockEncoder → Read
-read_of force x = if x.stopped then record { answer = Nothing; encoder = x } else emitted_of force (ready_of (stopping_of force x))
+read_of force x = when x.stopped then record { answer = Nothing; encoder = x } else emitted_of force (ready_of (stopping_of force x))
 
 -- ---- what read promises
 

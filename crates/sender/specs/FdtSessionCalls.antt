@@ -1,7 +1,7 @@
 -- The FDT session as the code has it: what it means, and what each function makes of it.
 use Rattle.std.specs.Prelude.{◌≡◌, Bool, true, false, ◌||◌, ℕ, ◌+◌, ◌<◌, ◌≤◌, get_or}
 use Rattle.std.proofs.Math.Option.{Option, none, some}
-use Rattle.sizes.specs.Words.{if◌then◌else◌}
+use Rattle.sizes.specs.Words.{when◌then◌else◌}
 use Rattle.sizes.specs.Limits.{wide, largest_window}
 use Rattle.sizes.specs.declared.partition.Sizes.{Sizes}
 use Rattle.lifecycle.specs.Setup.{bad_blocks}
@@ -28,7 +28,7 @@ use Rattle.sender.specs.declared.fdtsession.FdtTurn.{FdtTurn}
 
 -- the part of what is in hand is the encoder's
 abbrev pub fdt_hand_of : FdtSession → Option Def.FdtHand
-fdt_hand_of x = if x.busy then some record { id = x.id; part = x.encoder.content.part; encoder = encoder_of x.encoder } else none
+fdt_hand_of x = when x.busy then some record { id = x.id; part = x.encoder.content.part; encoder = encoder_of x.encoder } else none
 
 -- ---- what every call keeps
 
@@ -64,7 +64,7 @@ pub record FdtTries (f : Fdt) (w : ℕ) (draft : Draft) (x : FdtSession) : Type 
 
 -- a draft that was taken is not there any more
 abbrev pub left_of : Draft → Bool → Draft
-left_of draft taken = if taken then Missing else draft
+left_of draft taken = when taken then Missing else draft
 
 -- with nothing in hand
 abbrev pub fdt_idle_of : FdtSession
@@ -81,16 +81,16 @@ fdt_sent_by now taken f x y (EmittedV.One s) = record { taken = taken; answer = 
 
 unfoldable pub fdt_sent_of : ℕ → Bool → Fdt → FdtSession → FdtTurn
 fdt_sent_of now taken f x =
-    if x.busy then fdt_sent_by now taken f x (read_of false x.encoder).encoder (read_of false x.encoder).answer
+    when x.busy then fdt_sent_by now taken f x (read_of false x.encoder).encoder (read_of false x.encoder).answer
     else record { taken = taken; answer = Idle; fdt = f; session = x }
 
 -- with nothing in hand, ask for the next; a draft that was taken is not there any more. Then send
 unfoldable pub fdt_attempted_of : ℕ → ℕ → Draft → Bool → Fdt → FdtSession → FdtTurn
 fdt_attempted_of w now draft taken f x =
-    if x.busy then fdt_sent_of now taken f x
+    when x.busy then fdt_sent_of now taken f x
     else (let n = next_fdt_of now (left_of draft taken) f in
     let i = n.fdt.announcer.current in
-    fdt_sent_of now (taken || n.taken) n.fdt (if n.starts then fdt_begun_of w i.id i.part f.settings.sizes else x))
+    fdt_sent_of now (taken || n.taken) n.fdt (when n.starts then fdt_begun_of w i.id i.part f.settings.sizes else x))
 
 -- after the first round
 abbrev pub fdt_again_by : ℕ → ℕ → Draft → FdtTurn → Outcome → FdtTurn

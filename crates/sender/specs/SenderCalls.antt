@@ -1,7 +1,7 @@
 -- The sender as the code has it: the desk that it is, what every call keeps, what each call makes of it, and what is promised of each.
 use Rattle.std.specs.Prelude.{◌≡◌, Bool, true, false, List, map, ℕ, ◌<◌, ◌≤◌, eqb, ltb, length, get_or, take, set}
 use Rattle.std.proofs.Math.Option.{Option, none, some}
-use Rattle.sizes.specs.Words.{if◌then◌else◌, any, collect, Counts}
+use Rattle.sizes.specs.Words.{when◌then◌else◌, any, collect, Counts}
 use Rattle.sizes.specs.declared.refusal.Refusal.{Refusal}
 use Rattle.sizes.specs.declared.refusal.Refusal.TheVariants as Because
 use Rattle.sizes.specs.Limits.{most_sessions, largest_window, longest_store}
@@ -78,7 +78,7 @@ pub record Agrees (u : DefSetup) (s : Sender) : Type 0 where
 
 -- the slot that a session has in hand
 abbrev pub slot_in : SenderSession → Option ℕ
-slot_in x = if x.busy then some x.slot else none
+slot_in x = when x.busy then some x.slot else none
 
 pub record ValidSender (s : Sender) : Type 0 where
   pub holds : Holds s.fdt
@@ -116,7 +116,7 @@ add_answer (AdmissionV.Toi t) = Def.Answer.number t
 add_answer (AdmissionV.Refused why) = Def.Answer.refused why
 
 abbrev pub packet_said : Packet → DefPacket
-packet_said p = record { id = if p.is_fdt then some p.fdt_id else none; toi = p.toi; symbol = symbol_said p.symbol }
+packet_said p = record { id = when p.is_fdt then some p.fdt_id else none; toi = p.toi; symbol = symbol_said p.symbol }
 
 -- the packet of an answer, if there is one
 abbrev pub packet_in : RunAnswer → Option DefPacket
@@ -189,7 +189,7 @@ request_of o = record { priority = o.priority; part = o.part; own = o.own; plan 
 
 unfoldable pub adding_of : Object → Named → Sender → Adding
 adding_of o named s =
-    if any (has_priority o.priority) (working s)
+    when any (has_priority o.priority) (working s)
     then (let r = added_of s.fdt (request_of o) named in record { answer = r.answer; sender = with_list s r.fdt })
     else record { answer = AdmissionV.Refused Because.NoPriority; sender = s }
 
@@ -210,7 +210,7 @@ with_fdt_session x s = record { fdt = s.fdt; window = s.window; count = s.count;
 -- a run of file session i
 unfoldable pub running_of : ℕ → ℕ → Sender → Running
 running_of i now s =
-    if ltb i s.count
+    when ltb i s.count
     then (let r = ran_of s.window now s.fdt (get_or s.sessions i (idle_of 0)) in record {
       taken = false;
       answer = answer_of false (slot_at r.fdt.slots r.session.slot).file.toi 0 r.answer;

@@ -1,6 +1,6 @@
 -- Runs of the code: its calls from outside one after another, from an accepted set-up on, and what is promised of them. Statements only, proved in proofs/SenderRuns.
 use Rattle.std.specs.Prelude.{◌≡◌, Bool, true, not, ◌&&◌, List, [], ◌∷◌, map, ℕ}
-use Rattle.sizes.specs.Words.{if◌then◌else◌, given}
+use Rattle.sizes.specs.Words.{when◌then◌else◌, given}
 use Rattle.sizes.specs.Allocator as Alloc
 use Rattle.lifecycle.specs.FileDesc.{time_of}
 use Rattle.lifecycle.specs.Announce.{draft_given}
@@ -79,7 +79,7 @@ module _ (p : ℕ) where
   code_calls j s (c ∷ l) =
       let r = answered s c in
       let rest = code_calls (got_after p (call_said c) r.0 j) r.1 l in
-      if about p (desk_of s) (call_said c) then call_by (key j) (call_said c) ∷ rest else rest
+      when about p (desk_of s) (call_said c) then call_by (key j) (call_said c) ∷ rest else rest
 
   -- their answers
   unfoldable pub code_answers : List ℕ → Sender → List SenderCall → List Def.Answer
@@ -88,7 +88,7 @@ module _ (p : ℕ) where
       let r = answered s c in
       let j' = got_after p (call_said c) r.0 j in
       let rest = code_answers j' r.1 l in
-      if about p (desk_of s) (call_said c) then answer_by (key j') r.0 ∷ rest else rest
+      when about p (desk_of s) (call_said c) then answer_by (key j') r.0 ∷ rest else rest
 
   -- does none of them meet refusal 5, 6 or 7
   unfoldable pub code_smooth : Sender → List SenderCall → Bool

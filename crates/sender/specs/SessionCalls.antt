@@ -1,7 +1,7 @@
 -- The file sessions as the code has them: what they mean, and what each function makes of them.
 use Rattle.std.specs.Prelude.{◌≡◌, Bool, true, false, not, ◌&&◌, ◌||◌, List, ℕ, ◌+◌, ◌<◌, ◌≤◌, replicate}
 use Rattle.std.proofs.Math.Option.{none, some}
-use Rattle.sizes.specs.Words.{if◌then◌else◌}
+use Rattle.sizes.specs.Words.{when◌then◌else◌}
 use Rattle.sizes.specs.Limits.{wide, object_slots, largest_window}
 use Rattle.sizes.specs.Partition.{sbn, no_blocks}
 use Rattle.lifecycle.specs.Setup.{bad_blocks}
@@ -38,7 +38,7 @@ abbrev pub hand_of : Slot → SenderSession → Def.Hand
 hand_of v x = record { object = object_of v.file; listed = v.listed; encoder = encoder_of x.encoder; pace = pace_said x.pace }
 
 abbrev pub session_of : List Slot → SenderSession → Def.Session
-session_of t x = record { priority = x.priority; hand = if x.busy then some (hand_of (slot_at t x.slot) x) else none }
+session_of t x = record { priority = x.priority; hand = when x.busy then some (hand_of (slot_at t x.slot) x) else none }
 
 -- ---- what every call keeps
 
@@ -106,7 +106,7 @@ service_by x y (EmittedV.One s) = record { answer = Sent s; session = record { p
 -- nothing while an FDT is queued or before the due time; else a read
 unfoldable pub served_of : Bool → Bool → ℕ → SenderSession → Serving
 served_of forced blocked now x =
-    if blocked || too_early now (pace_said x.pace) then record { answer = Idle; session = x }
+    when blocked || too_early now (pace_said x.pace) then record { answer = Idle; session = x }
     else service_by x (read_of forced x.encoder).encoder (read_of forced x.encoder).answer
 
 -- at the end of its transfer the object is done, and the hand is empty
@@ -139,5 +139,5 @@ again_by w now a (Sent s) = a
 -- a run of a file session
 unfoldable pub ran_of : ℕ → ℕ → Fdt → SenderSession → Turn
 ran_of w now f x =
-    if x.busy then again_by w now (attended_of now f x) (attended_of now f x).answer
+    when x.busy then again_by w now (attended_of now f x) (attended_of now f x).answer
     else taken_on_of w now f x

@@ -1,6 +1,6 @@
 -- What a session stands at between two calls, and the definition's words for the list and for the FDT side.
 use Rattle.std.specs.Prelude.{◌≡◌, true, false, List, map, ℕ, ◌<◌}
-use Rattle.sizes.specs.Words.{if◌then◌else◌}
+use Rattle.sizes.specs.Words.{when◌then◌else◌}
 use Rattle.sizes.specs.Limits.{object_slots}
 use Rattle.lifecycle.specs.Lifecycle.{Carousel}
 use Rattle.lifecycle.specs.Slots.{slot_at}
@@ -48,7 +48,7 @@ pub record FdtInHand (f : Fdt) (w : ℕ) (x : FdtSession) : Type 0 where
 
 -- the carousel of the FDTs
 abbrev pub fdt_carousel_of : Settings → Carousel
-fdt_carousel_of z = if z.from_start then Carousel.interval z.interval else Carousel.delay z.interval
+fdt_carousel_of z = when z.from_start then Carousel.interval z.interval else Carousel.delay z.interval
 
 -- the FDT side, with what is in hand
 abbrev pub fdt_of : Fdt → FdtSession → DefFdt.Fdt

@@ -2,7 +2,7 @@
 use Rattle.sizes.specs.declared.refusal.Refusal.TheVariants as Because
 use Rattle.std.specs.Prelude.{◌≡◌, Bool, true, false, List, [], ◌∷◌, map, ℕ, eqb, ltb, leb, get_or, take, replicate}
 use Rattle.std.proofs.Math.Option.{none, some}
-use Rattle.sizes.specs.Words.{if◌then◌else◌}
+use Rattle.sizes.specs.Words.{when◌then◌else◌}
 use Rattle.sizes.specs.Limits.{most_sessions}
 use Rattle.sizes.specs.Allocator as Alloc
 use Rattle.sizes.specs.declared.toiallocator.ToiMaxLength.TheVariants.{ToiMax16, ToiMax32, ToiMax48, ToiMax64}
@@ -31,7 +31,7 @@ carousel_said (CarouselV.Interval d) = Life.Carousel.interval d
 
 -- as many priorities as it names sessions; where these are too many, what they are does not matter
 abbrev pub priorities_said : Setup → List ℕ
-priorities_said z = if leb z.count most_sessions then take z.count z.priorities else replicate z.count 0
+priorities_said z = when leb z.count most_sessions then take z.count z.priorities else replicate z.count 0
 
 abbrev pub setup_said : Setup → DefSetup
 setup_said z = record {
@@ -50,10 +50,10 @@ setup_said z = record {
 -- a width by its number
 unfoldable pub width_said : ℕ → Width
 width_said n =
-    if eqb n 16 then WidthV.Is ToiMax16
-    else if eqb n 32 then WidthV.Is ToiMax32
-    else if eqb n 48 then WidthV.Is ToiMax48
-    else if eqb n 64 then WidthV.Is ToiMax64
+    when eqb n 16 then WidthV.Is ToiMax16
+    else when eqb n 32 then WidthV.Is ToiMax32
+    else when eqb n 48 then WidthV.Is ToiMax48
+    else when eqb n 64 then WidthV.Is ToiMax64
     else WidthV.Bad
 
 -- ---- the sender that it opens
@@ -78,7 +78,7 @@ settings_of z = record {
 
 -- the priority of session i; zero past the sessions in use
 unfoldable pub priority_at : List ℕ → ℕ → ℕ → ℕ
-priority_at l n i = if ltb i n then get_or l i 0 else 0
+priority_at l n i = when ltb i n then get_or l i 0 else 0
 
 unfoldable pub opening_sender : Setup → Sender
 opening_sender z = record {
@@ -110,12 +110,12 @@ abbrev pub refused_of : Opened
 refused_of = record { ok = false; sender = opening_sender plain }
 
 unfoldable pub opened_of : Setup → Opened
-opened_of z = if sound (setup_said z) then record { ok = true; sender = opening_sender z } else refused_of
+opened_of z = when sound (setup_said z) then record { ok = true; sender = opening_sender z } else refused_of
 
 -- ---- what is promised: refusal 1 exactly where a number is out of its range, and the definition's opening desk where not
 
 pub record Opens (z : Setup) (r : Opened) : Type 0 where
   pub exact : r ≡ opened_of z
-  pub means : Def.set_up (setup_said z) ≡ (if r.ok then (Def.Answer.done, some (desk_of r.sender)) else (Def.Answer.refused Because.SetUp, none))
+  pub means : Def.set_up (setup_said z) ≡ (when r.ok then (Def.Answer.done, some (desk_of r.sender)) else (Def.Answer.refused Because.SetUp, none))
   pub agrees : r.ok ≡ true → Agrees (setup_said z) r.sender
   pub valid : ValidSender r.sender

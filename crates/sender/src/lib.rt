@@ -1,5 +1,6 @@
 // The top layer: the encoder, the sessions, and every call from outside.
 #![tactic(auto)]
+
 pub mod block;
 pub mod blockencoder;
 pub mod fdtsession;

@@ -5,7 +5,7 @@ use Prim.Native.Nat.{◌∣◌}
 use native.Mathlib.Nat.{mod-mod_of_dvd, dvd_of_mod-eq-zero}
 use lib.ListN.{length-replicate, length-map}
 use lib.Seq.{take-set-lt}
-use Rattle.sizes.specs.Words.{if◌then◌else◌, maybe, over, given, cut, place, collect, Each, has, one_if, times}
+use Rattle.sizes.specs.Words.{when◌then◌else◌, maybe, over, given, cut, place, collect, Each, has, one_if, times}
 use Rattle.sizes.specs.Limits.{toi_entries}
 use Rattle.sizes.specs.Toi.{skip_zero, cut_to, first_toi, after, free_from, next_toi, Toi}
 use Rattle.sizes.specs.Allocator.{bits, Width, noted, held, loose_in, no_entry, entry_is, new_allocator, noting, moved_on, allocated_of, bound_at, Fresh, entry_gone, unchanged, changed, claimed_of, dropped_of, ValidAllocator, Searchable, Opened, Gives, Becomes}
@@ -119,7 +119,7 @@ module _ (a : ToiAllocator) (v : ValidAllocator a) where
   valid_allocated flag = go (tested (ltb a.entered toi_entries))
     where
       go : Tested (ltb a.entered toi_entries)
-          → ValidAllocator (if◌then◌else◌ {A = Allocated} (ltb a.entered toi_entries) (record { answer = Given.Number a.next; allocator = moved_on (noting flag a) }) (record { answer = Given.Full; allocator = a })).allocator
+          → ValidAllocator (when◌then◌else◌ {A = Allocated} (ltb a.entered toi_entries) (record { answer = Given.Number a.next; allocator = moved_on (noting flag a) }) (record { answer = Given.Full; allocator = a })).allocator
       go (pass e) = rw e (valid_given flag (ltb-true a.entered toi_entries e))
       go (fail e) = rw e v
 
@@ -148,7 +148,7 @@ module _ (a : ToiAllocator) (v : ValidAllocator a) where
 
     named : e.toi ≡ t
     unfolding entry_is
-    named = eqb-true e.toi t (and_left (eqb e.toi t) (if flag then e.loose else not e.loose) h.passes)
+    named = eqb-true e.toi t (and_left (eqb e.toi t) (when flag then e.loose else not e.loose) h.passes)
 
     -- the entry is exchanged in its place
     pub noted_bound : noted (bound_at a t i) ≡ set (noted a) i (record { toi = t; loose = false })

@@ -3,7 +3,7 @@ use Rattle.std.proofs.Common.{◌≡◌, ℕ, suc, ◌+◌, ◌<◌, ◌≤◌, 
 use mathlib.Core.Bool.{false≢true}
 use mathlib.Core.Option.{Option, none, some}
 use borrow.Author.Tests.{not-true}
-use Rattle.sizes.specs.Words.{if◌then◌else◌, maybe, given, keep, has, at, place, collect, one_if, times}
+use Rattle.sizes.specs.Words.{when◌then◌else◌, maybe, given, keep, has, at, place, collect, one_if, times}
 use Rattle.sizes.specs.Limits.{toi_entries}
 use Rattle.sizes.specs.Allocator.{noted, held, loose_in, bound_in, loose, bound, entry_is, new_allocator, noting, moved_on, allocated_of, bound_at, entry_gone, unchanged, changed, claimed_of, dropped_of, ValidAllocator}
 use Rattle.sizes.specs.declared.toiallocator.Entry.{Entry}
@@ -30,7 +30,7 @@ split_in n [] = refl
 split_in n (e ∷ l) =
     let a = split_in n l in
     elim e.loose as (λ b. one_if (eqb e.toi n) + times n (map (λ (e : Entry). e.toi) l)
-    ≡ times n (maybe (collect loose_in l) (λ k. k ∷ collect loose_in l) (if b then some e.toi else none)) + times n (maybe (collect bound_in l) (λ k. k ∷ collect bound_in l) (if b then none else some e.toi)))
+    ≡ times n (maybe (collect loose_in l) (λ k. k ∷ collect loose_in l) (when b then some e.toi else none)) + times n (maybe (collect bound_in l) (λ k. k ∷ collect bound_in l) (when b then none else some e.toi)))
     [ true ↦ omega arith | false ↦ omega arith ]
 
 pub held_split : (a : ToiAllocator) (n : ℕ) → times n (held a) ≡ times n (loose a) + times n (bound a)
@@ -45,7 +45,7 @@ bound_none t (e ∷ l) h =
     let b = bound_none t l (λ i. h (suc i)) in
     let c = one e.loose (h 0 e refl) in omega arith
   where
-    one : (x : Bool) → (eqb e.toi t && not x) ≡ false → adds t (if x then none else some e.toi) ≡ 0
+    one : (x : Bool) → (eqb e.toi t && not x) ≡ false → adds t (when x then none else some e.toi) ≡ 0
     one true q = refl
     one false q = head (eqb e.toi t) q
       where

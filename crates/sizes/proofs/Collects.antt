@@ -1,13 +1,13 @@
 -- Laws of `collect`: what one element more, one less or one exchanged does to the list that is collected.
 use Rattle.std.proofs.Common.{◌≡◌, ℕ, zero, suc, ◌+◌, ◌<◌, ◌≤◌, true, false, not, eqb, List, [], ◌∷◌, ◌++◌, map, length, get_or, set, sym, refl, ap, ◌∙◌, arith, eq-eqb}
 use mathlib.Core.Option.{Option, none, some}
-use Rattle.sizes.specs.Words.{if◌then◌else◌, maybe, collect, keep, at, cut, one_if, times}
+use Rattle.sizes.specs.Words.{when◌then◌else◌, maybe, collect, keep, at, cut, one_if, times}
 use Rattle.sizes.proofs.Tests.{none≢some}
 
 -- a number that is not in the list is not missed
 pub keep_absent : (t : ℕ) (l : List ℕ) → times t l ≡ 0 → keep (λ u. not (eqb u t)) l ≡ l
 keep_absent t [] h = refl
-keep_absent t (a ∷ l) h = (elim (eqb a t) as (λ b. one_if b + times t l ≡ 0 → (if not b then a ∷ keep (λ u. not (eqb u t)) l else keep (λ u. not (eqb u t)) l) ≡ a ∷ l)
+keep_absent t (a ∷ l) h = (elim (eqb a t) as (λ b. one_if b + times t l ≡ 0 → (when not b then a ∷ keep (λ u. not (eqb u t)) l else keep (λ u. not (eqb u t)) l) ≡ a ∷ l)
     [ true ↦ λ z. absurd (omega arith) | false ↦ λ z. ap (λ r. a ∷ r) (keep_absent t l (omega arith)) ]) h
 
 -- a place inside the list has an element
@@ -79,7 +79,7 @@ module _ {A : Type 0} (f : A → Option ℕ) where
           let c = collect_cons t b l in
           let d = ap (adds t) q in
           let g = collect_at l n a t e h in
-          (elim (eqb k t) as (λ x. eqb k t ≡ x → k ∷ collect f (cut l n) ≡ (if not x then k ∷ keep (λ u. not (eqb u t)) (collect f l) else keep (λ u. not (eqb u t)) (collect f l))) [
+          (elim (eqb k t) as (λ x. eqb k t ≡ x → k ∷ collect f (cut l n) ≡ (when not x then k ∷ keep (λ u. not (eqb u t)) (collect f l) else keep (λ u. not (eqb u t)) (collect f l))) [
             | true ↦ λ p. (let z = ap one_if p in absurd (omega arith))
             | false ↦ λ p. ap (λ r. k ∷ r) (r (let z = ap one_if p in omega arith))
           ]) refl)

@@ -2,7 +2,7 @@
 use Rattle.std.proofs.Common.{◌≡◌, ℕ, zero, suc, ◌+◌, ◌<◌, ◌≤◌, Bool, true, false, ◌||◌, eqb, List, [], ◌∷◌, ◌++◌, map, length, get_or, take, set, sym, refl, ap, ◌∙◌, subst, true≢false, arith, eqb-true}
 use mathlib.Core.Bool.{false≢true}
 use mathlib.Core.Option.{none, some}
-use Rattle.sizes.specs.Words.{if◌then◌else◌, over, any, find, drop_first, first_of, at, cut, place, Each, has, one_if, times}
+use Rattle.sizes.specs.Words.{when◌then◌else◌, over, any, find, drop_first, first_of, at, cut, place, Each, has, one_if, times}
 use Rattle.sizes.proofs.Tests.{Tested, pass, fail, tested, none≢some}
 
 -- a search finds a, at place n
@@ -77,7 +77,7 @@ module _ {A : Type 0} (P : A → Type 0) where
 
   pub each_drop_first : (ok : A → Bool) (l : List A) → Each P l → Each P (drop_first ok l)
   each_drop_first ok [] u = tt
-  each_drop_first ok (a ∷ l) u = elim (ok a) as (λ t. Each P (if t then l else a ∷ drop_first ok l))
+  each_drop_first ok (a ∷ l) u = elim (ok a) as (λ t. Each P (when t then l else a ∷ drop_first ok l))
       [ true ↦ u.1 | false ↦ (u.0, each_drop_first ok l u.1) ]
 
   pub each_map : (f : A → A) → ((a : A) → P a → P (f a)) → (l : List A) → Each P l → Each P (map f l)
@@ -92,7 +92,7 @@ module _ {A : Type 0} (P : A → Type 0) where
   -- what is found has the property, and passes
   pub each_find : (ok : A → Bool) (l : List A) (a : A) → find ok l ≡ some a → Each P l → P a × (ok a ≡ true)
   each_find ok [] a e u = absurd (none≢some e)
-  each_find ok (b ∷ l) a e u = (elim (ok b) as (λ t. ok b ≡ t → (if t then some b else find ok l) ≡ some a → P a × (ok a ≡ true)) [
+  each_find ok (b ∷ l) a e u = (elim (ok b) as (λ t. ok b ≡ t → (when t then some b else find ok l) ≡ some a → P a × (ok a ≡ true)) [
     | true ↦ λ h e. (let s : b ≡ a = cc in (subst P s u.0, subst (λ x. ok x ≡ true) s h))
     | false ↦ λ h e. each_find ok l a e u.1
   ]) refl e

@@ -3,7 +3,7 @@ use Rattle.std.proofs.Common.{◌≡◌, ℕ, zero, suc, ◌+◌, ◌<◌, ◌�
 use mathlib.Core.Bool.{false≢true}
 use mathlib.Core.Option.{some}
 use borrow.Author.Tests.{eqb-false}
-use Rattle.sizes.specs.Words.{if◌then◌else◌, over, given, keep, any, find, drop_first, at, cut, has, one_if, times, tally, Counts}
+use Rattle.sizes.specs.Words.{when◌then◌else◌, over, given, keep, any, find, drop_first, at, cut, has, one_if, times, tally, Counts}
 use Rattle.sizes.proofs.Tests.{Tested, pass, fail, tested, none≢some}
 use Rattle.sizes.proofs.Lists.{any_map, has_times, has_none}
 use Rattle.sizes.proofs.Folds.{Fold, folded, folded_empty, folded_set, folded_in, or_fold, any_folded, sum_fold, tally_folded, length_folded}
@@ -85,18 +85,18 @@ keep_cut ok f (a ∷ l) (suc n) k e o h = rw (h a (let r = ap one_if (eq-eqb a a
 -- a search through a map
 pub find_map : {A B : Type 0} (ok : B → Bool) (f : A → B) (l : List A) → find ok (map f l) ≡ over f (find (λ a. ok (f a)) l)
 find_map ok f [] = refl
-find_map ok f (a ∷ l) = elim (ok (f a)) as (λ t. (if t then some (f a) else find ok (map f l)) ≡ over f (if t then some a else find (λ a. ok (f a)) l))
+find_map ok f (a ∷ l) = elim (ok (f a)) as (λ t. (when t then some (f a) else find ok (map f l)) ≡ over f (when t then some a else find (λ a. ok (f a)) l))
     [ true ↦ refl | false ↦ find_map ok f l ]
 
 pub drop_map : {A B : Type 0} (ok : B → Bool) (f : A → B) (l : List A) → drop_first ok (map f l) ≡ map f (drop_first (λ a. ok (f a)) l)
 drop_map ok f [] = refl
-drop_map ok f (a ∷ l) = elim (ok (f a)) as (λ t. (if t then map f l else f a ∷ drop_first ok (map f l)) ≡ map f (if t then l else a ∷ drop_first (λ a. ok (f a)) l))
+drop_map ok f (a ∷ l) = elim (ok (f a)) as (λ t. (when t then map f l else f a ∷ drop_first ok (map f l)) ≡ map f (when t then l else a ∷ drop_first (λ a. ok (f a)) l))
     [ true ↦ refl | false ↦ ap (λ r. f a ∷ r) (drop_map ok f l) ]
 
 -- is one found
 pub find_any : {A : Type 0} (ok : A → Bool) (l : List A) → given (find ok l) ≡ any ok l
 find_any ok [] = refl
-find_any ok (a ∷ l) = elim (ok a) as (λ t. given (if t then some a else find ok l) ≡ (t || any ok l)) [ true ↦ refl | false ↦ find_any ok l ]
+find_any ok (a ∷ l) = elim (ok a) as (λ t. given (when t then some a else find ok l) ≡ (t || any ok l)) [ true ↦ refl | false ↦ find_any ok l ]
 
 pub any_in : {B : Type 0} (ok : B → Bool) (f : ℕ → B) (l : List ℕ) (k : ℕ) → 1 ≤ times k l → ok (f k) ≡ true → any ok (map f l) ≡ true
 any_in ok f [] k h e = absurd (omega arith)

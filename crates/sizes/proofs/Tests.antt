@@ -2,7 +2,7 @@
 use Rattle.std.proofs.Common.{◌≡◌, ℕ, Bool, true, false, ◌&&◌, ◌||◌, refl, true≢false, arith}
 use mathlib.Core.Bool.{false≢true}
 use mathlib.Core.Option.{Option, none, some}
-use Rattle.sizes.specs.Words.{if◌then◌else◌, maybe}
+use Rattle.sizes.specs.Words.{when◌then◌else◌, maybe}
 
 -- a test is true or false, with the equation
 pub data Tested (t : Bool) : Type 0 where
@@ -33,7 +33,7 @@ pub none≢some : {A : Type 0} {a : A} → none ≡ some a → ⊥
 none≢some e = let z : ◌≡◌ {A = ℕ} 0 1 = cc in omega arith
 
 -- what holds in both cases, of a choice and of what may be there
-pub if_on : {A : Type 0} (P : A → Type 0) (b : Bool) {x y : A} → (b ≡ true → P x) → (b ≡ false → P y) → P (if b then x else y)
+pub if_on : {A : Type 0} (P : A → Type 0) (b : Bool) {x y : A} → (b ≡ true → P x) → (b ≡ false → P y) → P (when b then x else y)
 if_on P true t f = t refl
 if_on P false t f = f refl
 

@@ -3,14 +3,14 @@ use Rattle.std.proofs.Common.{◌≡◌, ℕ, zero, suc, ◌+◌, ◌-◌, ◌%�
 use mathlib.Core.Bool.{false≢true}
 use native.Mathlib.Nat.{mod_self, pow-le-pow_right}
 use borrow.Author.Tests.{eqb-false}
-use Rattle.sizes.specs.Words.{if◌then◌else◌, has}
+use Rattle.sizes.specs.Words.{when◌then◌else◌, has}
 use Rattle.sizes.specs.Limits.{toi_entries}
 use Rattle.sizes.specs.Toi.{skip_zero, cut_to, after, free_from, first_toi, next_toi, Toi, steps_on, FirstFree}
 use Rattle.sizes.proofs.Tests.{Tested, pass, fail, tested}
 
 skip_range : (w n : ℕ) → 2 ≤ 2 ^ w → n < 2 ^ w → Toi w (skip_zero n)
 unfolding skip_zero
-skip_range w n h g = (elim (eqb n 0) as (λ t. eqb n 0 ≡ t → Toi w (if t then 1 else n)) [
+skip_range w n h g = (elim (eqb n 0) as (λ t. eqb n 0 ≡ t → Toi w (when t then 1 else n)) [
   | true ↦ λ e. record { low = omega arith; high = h }
   | false ↦ λ e. record { low = (let k : n ≡ 0 → ⊥ = eqb-false n 0 e in positive n k); high = g }
 ]) refl
@@ -71,24 +71,24 @@ never_back w n j r h e = go (ahead_cases w n (suc j) r h)
 -- the list without the number n
 others : ℕ → List ℕ → List ℕ
 others n [] = []
-others n (a ∷ l) = if eqb a n then others n l else a ∷ others n l
+others n (a ∷ l) = when eqb a n then others n l else a ∷ others n l
 
 others_shorter : (n : ℕ) (l : List ℕ) → length (others n l) ≤ length l
 unfolding others
 others_shorter n [] = omega arith
-others_shorter n (a ∷ l) = elim (eqb a n) as (λ t. length (if t then others n l else a ∷ others n l) ≤ suc (length l))
+others_shorter n (a ∷ l) = elim (eqb a n) as (λ t. length (when t then others n l else a ∷ others n l) ≤ suc (length l))
     [ true ↦ (let h = others_shorter n l in omega arith) | false ↦ (let h = others_shorter n l in omega arith) ]
 
 others_less : (n : ℕ) (l : List ℕ) → has n l ≡ true → length (others n l) < length l
 unfolding others
 others_less n [] e = absurd (false≢true e)
-others_less n (a ∷ l) e = (elim (eqb a n) as (λ t. (t || has n l) ≡ true → length (if t then others n l else a ∷ others n l) < suc (length l))
+others_less n (a ∷ l) e = (elim (eqb a n) as (λ t. (t || has n l) ≡ true → length (when t then others n l else a ∷ others n l) < suc (length l))
     [ true ↦ λ e. (let h = others_shorter n l in omega arith) | false ↦ λ e. (let h = others_less n l e in omega arith) ]) e
 
 others_has : (n m : ℕ) (l : List ℕ) → (m ≡ n → ⊥) → has m l ≡ true → has m (others n l) ≡ true
 unfolding others
 others_has n m [] d e = e
-others_has n m (a ∷ l) d e = (elim (eqb a n) as (λ t. eqb a n ≡ t → (eqb a m || has m l) ≡ true → has m (if t then others n l else a ∷ others n l) ≡ true) [
+others_has n m (a ∷ l) d e = (elim (eqb a n) as (λ t. eqb a n ≡ t → (eqb a m || has m l) ≡ true → has m (when t then others n l else a ∷ others n l) ≡ true) [
   | true ↦ λ q e. others_has n m l d (rw (ne_eqb a m (λ z. d (sym z ∙ eqb-true a n q))) at e)
   | false ↦ λ q e. (elim (eqb a m) as (λ t. (t || has m l) ≡ true → (t || has m (others n l)) ≡ true)
       [ true ↦ λ e. refl | false ↦ λ e. others_has n m l d e ]) e
@@ -106,7 +106,7 @@ free_ok w zero held [] n r h g f = go (tested (has n held))
     go (fail e) = e
 free_ok w zero held (x ∷ rest) n r h g f = absurd (omega arith)
 free_ok w (suc k) held rest n r h g f =
-    (elim (has n held) as (λ t. has n held ≡ t → has (if t then free_from w k held (after w n) else n) held ≡ false) [
+    (elim (has n held) as (λ t. has n held ≡ t → has (when t then free_from w k held (after w n) else n) held ≡ false) [
       | true ↦ λ e. free_ok w k held (others n rest) (after w n) (after_range w n (let a = r.low in let b = r.high in omega arith)) (omega arith)
           (let z = others_less n rest (f 0 (omega arith) e) in omega arith)
           (λ j i e. others_has n (steps_on w (after w n) j) rest (never_back w n j r (omega arith)) (f (suc j) (omega arith) e))
@@ -116,7 +116,7 @@ free_ok w (suc k) held rest n r h g f =
 free_range : (w k : ℕ) (held : List ℕ) (n : ℕ) → Toi w n → Toi w (free_from w k held n)
 unfolding free_from
 free_range w zero held n r = r
-free_range w (suc k) held n r = elim (has n held) as (λ t. Toi w (if t then free_from w k held (after w n) else n))
+free_range w (suc k) held n r = elim (has n held) as (λ t. Toi w (when t then free_from w k held (after w n) else n))
     [ true ↦ free_range w k held (after w n) (after_range w n (let a = r.low in let b = r.high in omega arith)) | false ↦ r ]
 
 -- the search stops at a number before which all are held
@@ -128,7 +128,7 @@ record Stop (w : ℕ) (held : List ℕ) (n m : ℕ) : Type 0 where
 stop_at : (w k : ℕ) (held : List ℕ) (n : ℕ) → Stop w held n (free_from w k held n)
 unfolding free_from steps_on
 stop_at w zero held n = record { passed = 0; stands = refl; before = λ j h. absurd (omega arith) }
-stop_at w (suc k) held n = (elim (has n held) as (λ t. has n held ≡ t → Stop w held n (if t then free_from w k held (after w n) else n)) [
+stop_at w (suc k) held n = (elim (has n held) as (λ t. has n held ≡ t → Stop w held n (when t then free_from w k held (after w n) else n)) [
   | true ↦ λ e. (let s = stop_at w k held (after w n) in
       record { passed = suc s.passed; stands = s.stands; before = λ j h. each e s j h })
   | false ↦ λ e. record { passed = 0; stands = refl; before = λ j h. absurd (omega arith) }
@@ -183,7 +183,7 @@ first_once w held t m n a b = go (tested (ltb a.passed b.passed)) (tested (ltb b
 free_same : (w k : ℕ) (a b : List ℕ) (n : ℕ) → ((m : ℕ) → has m a ≡ has m b) → free_from w k a n ≡ free_from w k b n
 unfolding free_from
 free_same w zero a b n h = refl
-free_same w (suc k) a b n h = rw (h n) (elim (has n b) as (λ t. (if t then free_from w k a (after w n) else n) ≡ (if t then free_from w k b (after w n) else n))
+free_same w (suc k) a b n h = rw (h n) (elim (has n b) as (λ t. (when t then free_from w k a (after w n) else n) ≡ (when t then free_from w k b (after w n) else n))
     [ true ↦ free_same w k a b (after w n) h | false ↦ refl ])
 
 pub next_same : (w : ℕ) (a b : List ℕ) (t : ℕ) → length a ≡ length b → ((m : ℕ) → has m a ≡ has m b) → next_toi w a t ≡ next_toi w b t

@@ -1,7 +1,7 @@
 -- The allocator of object numbers: 64 entries, each a number that is held by a loose reservation or by an object.
 use Rattle.std.specs.Prelude.{◌≡◌, ℕ, ◌+◌, ◌-◌, ◌≤◌, Bool, true, false, not, ◌&&◌, List, [], ◌∷◌, ◌++◌, map, length, take, replicate, ◌==◌, nat_lt, slice_index_or, slice_set}
 use Rattle.std.proofs.Math.Option.{Option, none, some}
-use Rattle.sizes.specs.Words.{if◌then◌else◌, maybe, has, place, shut, collect, times, Each}
+use Rattle.sizes.specs.Words.{when◌then◌else◌, maybe, has, place, shut, collect, times, Each}
 use Rattle.sizes.specs.Limits.{toi_entries}
 use Rattle.sizes.specs.declared.refusal.Refusal.{Refusal}
 use Rattle.sizes.specs.declared.refusal.Refusal.TheVariants as Because
@@ -55,10 +55,10 @@ abbrev pub held : ToiAllocator → List ℕ
 held a = map (λ (e : Entry). e.toi) (noted a)
 
 abbrev pub loose_in : Entry → Option ℕ
-loose_in e = if e.loose then some e.toi else none
+loose_in e = when e.loose then some e.toi else none
 
 abbrev pub bound_in : Entry → Option ℕ
-bound_in e = if e.loose then none else some e.toi
+bound_in e = when e.loose then none else some e.toi
 
 -- the numbers of loose reservations, and those of objects
 abbrev pub loose : ToiAllocator → List ℕ
@@ -69,7 +69,7 @@ bound a = collect bound_in (noted a)
 
 -- is it the entry of a loose reservation (or of an object) with this number
 unfoldable pub entry_is : ℕ → Bool → Entry → Bool
-entry_is t flag e = e.toi == t && (if flag then e.loose else not e.loose)
+entry_is t flag e = e.toi == t && (when flag then e.loose else not e.loose)
 
 -- before the first call
 unfoldable pub new_allocator : ℕ → ℕ → ToiAllocator
@@ -90,7 +90,7 @@ moved_on a = record { entries = a.entries; entered = a.entered; next = next_toi 
 -- the answer is the stored next number, and the next is the first after it that is not held; refused where all entries are in use
 unfoldable pub allocated_of : Bool → ToiAllocator → Allocated
 allocated_of flag a =
-    if nat_lt a.entered toi_entries then record { answer = Number a.next; allocator = moved_on (noting flag a) }
+    when nat_lt a.entered toi_entries then record { answer = Number a.next; allocator = moved_on (noting flag a) }
     else record { answer = Full; allocator = a }
 
 -- the entry at place i is an object's from now on

@@ -1,7 +1,7 @@
 -- Partition of an object into blocks (RFC 5052, section 9.1), and the length of one block in bytes.
 use Rattle.std.specs.Prelude.{ℕ, ◌+◌, ◌-◌, ◌*◌, ◌/◌, min, Bool, ◌&&◌, ◌||◌, ◌==◌, nat_lt}
 use Rattle.std.proofs.Math.Option.{Option, none, some}
-use Rattle.sizes.specs.Words.{if◌then◌else◌, ceil}
+use Rattle.sizes.specs.Words.{when◌then◌else◌, ceil}
 use Rattle.sizes.specs.Limits.{wide}
 use Rattle.sizes.specs.declared.numbers.Sbn.{Sbn}
 use Rattle.sizes.specs.declared.numbers.Esi.{Esi}
@@ -34,7 +34,7 @@ no_blocks = record { large = 0; small = 0; nb_a_large = 0; blocks = 0 }
 -- the partition of l bytes into symbols of e bytes and blocks of at most b symbols; all zeros where b, e or T is 0
 unfoldable pub partition_of : ℕ → ℕ → ℕ → Partition
 partition_of b l e =
-    if b == 0 || e == 0 || symbols_of l e == 0 then no_blocks
+    when b == 0 || e == 0 || symbols_of l e == 0 then no_blocks
     else split (symbols_of l e) (ceil (symbols_of l e) b)
 
 -- the partition of l bytes by the E and B that the set-up or an object names
@@ -43,11 +43,11 @@ blocks_of z l = partition_of z.b l z.e
 
 -- how many symbols a block has: the first I blocks are large
 unfoldable pub symbols_in : Partition → Sbn → ℕ
-symbols_in p k = if nat_lt k.0 p.nb_a_large then p.large else p.small
+symbols_in p k = when nat_lt k.0 p.nb_a_large then p.large else p.small
 
 -- how many symbols stand before a block
 unfoldable pub first_symbol : Partition → Sbn → ℕ
-first_symbol p k = if nat_lt k.0 p.nb_a_large then k.0 * p.large else p.nb_a_large * p.large + (k.0 - p.nb_a_large) * p.small
+first_symbol p k = when nat_lt k.0 p.nb_a_large then k.0 * p.large else p.nb_a_large * p.large + (k.0 - p.nb_a_large) * p.small
 
 -- where a block begins, in bytes
 unfoldable pub block_start : Partition → ℕ → Sbn → ℕ
@@ -63,16 +63,16 @@ fits n = nat_lt n wide
 
 -- a number, where it fits 64 bits
 unfoldable pub checked : ℕ → Checked
-checked n = if fits n then Fits n else Past
+checked n = when fits n then Fits n else Past
 
 -- of a block of this size that begins at offset, the bytes that l bytes reach, or none
 unfoldable pub reach : ℕ → ℕ → ℕ → Option ℕ
-reach offset size l = if nat_lt offset l && nat_lt 0 size then some (min size (l - offset)) else none
+reach offset size l = when nat_lt offset l && nat_lt 0 size then some (min size (l - offset)) else none
 
 -- a block's length: none where a number passes 64 bits (both block sizes are always formed), else what l bytes reach of it
 unfoldable pub block_length : Partition → ℕ → ℕ → Sbn → Option ℕ
 block_length p l e k =
-    if fits (p.large * e) && fits (p.small * e) && fits (block_start p e k)
+    when fits (p.large * e) && fits (p.small * e) && fits (block_start p e k)
     then reach (block_start p e k) (block_size p e k) l
     else none
 

@@ -1,10 +1,10 @@
 -- Object numbers (TOI): the cyclic order 1, 2, .., 2^w - 1, 1, .. and the next one that is not held.
 use Rattle.std.specs.Prelude.{◌≡◌, ℕ, zero, suc, ◌+◌, ◌%◌, ◌^◌, ◌<◌, ◌≤◌, true, false, List, length, ◌==◌}
-use Rattle.sizes.specs.Words.{if◌then◌else◌, has}
+use Rattle.sizes.specs.Words.{when◌then◌else◌, has}
 
 -- 0 becomes 1
 unfoldable pub skip_zero : ℕ → ℕ
-skip_zero n = if n == 0 then 1 else n
+skip_zero n = when n == 0 then 1 else n
 
 -- cut to w bits; 0 then becomes 1
 unfoldable pub cut_to : ℕ → ℕ → ℕ
@@ -21,7 +21,7 @@ after w n = cut_to w (n + 1)
 -- from n on, the first that is not held, looked for in k turns
 unfoldable pub free_from : ℕ → ℕ → List ℕ → ℕ → ℕ
 free_from w zero held n = n
-free_from w (suc k) held n = if has n held then free_from w k held (after w n) else n
+free_from w (suc k) held n = when has n held then free_from w k held (after w n) else n
 
 -- the next number once t is given; t is among those held
 unfoldable pub next_toi : ℕ → List ℕ → ℕ → ℕ

@@ -2,11 +2,11 @@
 use Rattle.std.specs.Prelude.{◌≡◌, ℕ, zero, suc, ◌+◌, ◌-◌, ◌/◌, Bool, true, false, ◌&&◌, ◌||◌, eqb, List, [], ◌∷◌, ◌++◌, get_or, ◌==◌, nat_le}
 use Rattle.std.proofs.Math.Option.{Option, none, some}
 
-infix 1 if◌then◌else◌
+infix 1 when◌then◌else◌
 -- a choice by a test
-abbrev pub if◌then◌else◌ {ℓ} : {A : Type ℓ} → Bool → A → A → A
-if true then a else b = a
-if false then a else b = b
+abbrev pub when◌then◌else◌ {ℓ} : {A : Type ℓ} → Bool → A → A → A
+when true then a else b = a
+when false then a else b = b
 
 -- a / b rounded up, for b of at least 1
 unfoldable pub ceil : ℕ → ℕ → ℕ
@@ -36,7 +36,7 @@ module _ {A : Type 0} where
   -- the elements that pass
   abbrev pub keep : (A → Bool) → List A → List A
   keep ok [] = []
-  keep ok (a ∷ l) = if ok a then a ∷ keep ok l else keep ok l
+  keep ok (a ∷ l) = when ok a then a ∷ keep ok l else keep ok l
 
   -- does one pass
   abbrev pub any : (A → Bool) → List A → Bool
@@ -51,12 +51,12 @@ module _ {A : Type 0} where
   -- the first that passes
   abbrev pub find : (A → Bool) → List A → Option A
   find ok [] = none
-  find ok (a ∷ l) = if ok a then some a else find ok l
+  find ok (a ∷ l) = when ok a then some a else find ok l
 
   -- the list without the first that passes
   abbrev pub drop_first : (A → Bool) → List A → List A
   drop_first ok [] = []
-  drop_first ok (a ∷ l) = if ok a then l else a ∷ drop_first ok l
+  drop_first ok (a ∷ l) = when ok a then l else a ∷ drop_first ok l
 
   -- the element at place i
   abbrev pub at : List A → ℕ → Option A
@@ -73,7 +73,7 @@ module _ {A : Type 0} where
   -- where the first that passes stands
   abbrev pub place : (A → Bool) → List A → Option ℕ
   place ok [] = none
-  place ok (a ∷ l) = if ok a then some 0 else over suc (place ok l)
+  place ok (a ∷ l) = when ok a then some 0 else over suc (place ok l)
 
   -- an array with place i left out: the later ones move up, and z comes in at the end
   abbrev pub shut : A → List A → ℕ → List A
@@ -91,7 +91,7 @@ within low high n = nat_le low n && nat_le n high
 -- the first entry of a table whose test holds
 abbrev pub first_of : {A : Type 0} → List (A × Bool) → Option A
 first_of [] = none
-first_of (r ∷ l) = if r.1 then some r.0 else first_of l
+first_of (r ∷ l) = when r.1 then some r.0 else first_of l
 
 -- is the number in the list
 abbrev pub has : ℕ → List ℕ → Bool

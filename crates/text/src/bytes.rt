@@ -52,6 +52,7 @@ pub fn pass(c: Class, s: &[u8], from: usize) -> usize
 }
 
 // Space, tab, carriage return.
+#[tactic(auto, unfolding(crate::specs::Bytes::blank))]
 fn is_blank(b: u8) -> bool
     ensures { result ≡ blank b }
 {

@@ -1,23 +1,24 @@
-// Lines: what line feeds end, in a slice and from a descriptor.
+// Lines: what line feeds end, in a slice and from a reader.
 ghost use Rattle.std.specs.Prelude.{◌≡◌, ◌+◌, ◌≤◌, length, take, drop};
 ghost use Rattle.text.specs.Bytes.{part};
 ghost use Rattle.text.specs.Lines.{Refilled, Added, Taken, NextLine, line_from, nothing_read, most_lines};
 
 use crate::bytes::{Class, pass};
+use std::io::Read;
 
 // Moves the bytes from..to of buf to its front, if it has them, reads once behind them, and answers how far buf is filled.
-pub fn refill(fd: i32, buf: &mut [u8], from: usize, to: usize) -> usize
+pub fn refill<R: Read>(input: &mut R, buf: &mut [u8], from: usize, to: usize) -> usize
     ensures { Refilled buf.old from to buf.new result }
 {
     if to < from {
-        return read_at(fd, buf, 0);
+        return read_at(input, buf, 0);
     }
     if buf.len() < to {
-        return read_at(fd, buf, 0);
+        return read_at(input, buf, 0);
     }
     let kept = to - from;
     move_to_front(buf, from, kept);
-    read_at(fd, buf, kept)
+    read_at(input, buf, kept)
 }
 
 // Moves the n bytes of buf from `from` on to its front.
@@ -33,13 +34,14 @@ fn move_to_front(buf: &mut [u8], from: usize, n: usize)
 }
 
 // Reads once into buf from index `at` on, and answers how far buf is filled.
-fn read_at(fd: i32, buf: &mut [u8], at: usize) -> usize
+fn read_at<R: Read>(input: &mut R, buf: &mut [u8], at: usize) -> usize
     requires { at ≤ length buf.old }
     ensures { Added buf.old at buf.new result }
 {
-    let got = libc::read(fd, &mut buf[at..]);
-    let more = io::count(got, &buf[at..]);
-    at + more
+    match input.read(&mut buf[at..]) {
+        Ok(more) => at + more,
+        Err(_) => at,
+    }
 }
 
 // Where a program stands in what it reads, with the buffer that it lends: the line taken last is the
@@ -69,26 +71,26 @@ pub fn unread() -> Input
     }
 }
 
-// Takes the next line of what fd gives, without its line feed. A line that does not fit buf comes in pieces
+// Takes the next line of what input gives, without its line feed. A line that does not fit buf comes in pieces
 // as long as buf; what follows the last line feed is a line, unless it is empty. A read that fails counts as
 // the end of the input.
-pub fn take_line(fd: i32, buf: &mut [u8], was: Input) -> Input
+pub fn take_line<R: Read>(input: &mut R, buf: &mut [u8], was: Input) -> Input
     ensures { Taken (part was.next was.to buf.old) buf.old was.ended buf.new result }
 {
     let from = was.next;
     let to = was.to;
     let ended = was.ended;
     if to < from {
-        return take_from(fd, buf, 0, 0, ended);
+        return take_from(input, buf, 0, 0, ended);
     }
     if buf.len() < to {
-        return take_from(fd, buf, 0, 0, ended);
+        return take_from(input, buf, 0, 0, ended);
     }
-    take_from(fd, buf, from, to, ended)
+    take_from(input, buf, from, to, ended)
 }
 
 // The same, where from..to is pending.
-fn take_from(fd: i32, buf: &mut [u8], from: usize, to: usize, ended: bool) -> Input
+fn take_from<R: Read>(input: &mut R, buf: &mut [u8], from: usize, to: usize, ended: bool) -> Input
     requires { (from ≤ to) × (to ≤ length buf.old) }
     ensures { Taken (part from to buf.old) buf.old ended buf.new result }
 {
@@ -102,7 +104,7 @@ fn take_from(fd: i32, buf: &mut [u8], from: usize, to: usize, ended: bool) -> In
         if r.end < end {
             return r;
         }
-        let n = refill(fd, buf, at, end);
+        let n = refill(input, buf, at, end);
         if n == end - at {
             return first_line(buf, 0, n, true);
         }
@@ -150,23 +152,23 @@ pub struct Lines {
     pub left: u64,
 }
 
-// Takes the first line of what fd gives.
-pub fn open_lines(fd: i32, buf: &mut [u8]) -> Lines
+// Takes the first line of what input gives.
+pub fn open_lines<R: Read>(input: &mut R, buf: &mut [u8]) -> Lines
     ensures { NextLine (record { at = nothing_read; left = most_lines }) buf.old buf.new result }
 {
     let none = Lines {
         at: unread(),
         left: u64::MAX,
     };
-    next_line(fd, buf, none)
+    next_line(input, buf, none)
 }
 
 // Takes the next one.
-pub fn next_line(fd: i32, buf: &mut [u8], was: Lines) -> Lines
+pub fn next_line<R: Read>(input: &mut R, buf: &mut [u8], was: Lines) -> Lines
     ensures { NextLine was buf.old buf.new result }
 {
     let before = was.at;
-    let at = take_line(fd, buf, before);
+    let at = take_line(input, buf, before);
     if at.over {
         return Lines { at, left: 0 };
     }

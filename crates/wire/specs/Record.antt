@@ -1,6 +1,6 @@
 -- The packet record: its layout, what is refused, and what writing and reading answer.
 use Rattle.std.specs.Prelude.{◌≡◌, Bool, ◌&&◌, List, [], ◌∷◌, ◌++◌, ℕ, eqb, leb, ltb, length, drop, get_or}
-use Rattle.sizes.specs.Words.{if◌then◌else◌, one_if}
+use Rattle.sizes.specs.Words.{when◌then◌else◌, one_if}
 use Rattle.sizes.specs.Partition.{sbn, esi}
 use Rattle.sizes.specs.declared.refusal.Refusal.{Refusal}
 use Rattle.sizes.specs.declared.refusal.Refusal.TheVariants as Because
@@ -58,7 +58,7 @@ record_size = 28
 
 -- number 0 is the FDT's and no object's, and only an FDT has an id
 unfoldable pub well_named : Record → Bool
-well_named r = if r.is_fdt then eqb r.toi 0 else ltb 0 r.toi && eqb r.fdt_id 0
+well_named r = when r.is_fdt then eqb r.toi 0 else ltb 0 r.toi && eqb r.fdt_id 0
 
 -- no value is too wide, and the numbers agree with the FDT flag
 unfoldable pub good : Record → Bool
@@ -92,10 +92,10 @@ writable out r = leb record_size (length out) && good r
 
 -- what a write answers, and what stands in the buffer then: the record's bytes and what stood behind them; or what stood there
 unfoldable pub write_answer : List ℕ → Record → RecordAnswer
-write_answer out r = if writable out r then done else refused Because.Record
+write_answer out r = when writable out r then done else refused Because.Record
 
 unfoldable pub write_buffer : List ℕ → Record → List ℕ
-write_buffer out r = if writable out r then written r ++ drop record_size out else out
+write_buffer out r = when writable out r then written r ++ drop record_size out else out
 
 pub record RecordWrites (before : List ℕ) (r : Record) (a : Writing) (after : List ℕ) : Type 0 where
   pub answer : writing_said a ≡ write_answer before r
@@ -107,7 +107,7 @@ readable bs = eqb (length bs) record_size && eqb (padding (values_in bs)) 0 && g
 
 -- what a read answers
 unfoldable pub read_answer : List ℕ → RecordAnswer
-read_answer bs = if readable bs then fields (with_values (values_in bs)) else refused Because.Record
+read_answer bs = when readable bs then fields (with_values (values_in bs)) else refused Because.Record
 
 pub record RecordReads (bs : List ℕ) (a : Reading) : Type 0 where
   pub answer : reading_said a ≡ read_answer bs

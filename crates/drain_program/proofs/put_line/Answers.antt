@@ -12,7 +12,5 @@ returns-in_default c = rw c.in_default.is (nothing_more _ _ (search rules))
 pub returns : goal.returns
 unfolding line_text
 returns c =
-    let packet = c.line-1.given in
-    let close = packet.0.1.1.1.1.1.0 in
-    rw (packet.1, ← byte_of close)
+    rw (c.in-Packet.is, ← byte_of c.in-Packet.close)
     (both (both (both (both (both c.put-a.ensures.0 c.put-b.ensures.0) c.put-c.ensures.0) c.put-d.ensures.0) c.put-e.ensures.0) c.put.ensures.0)

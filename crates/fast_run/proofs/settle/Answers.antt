@@ -1,5 +1,4 @@
 use mathlib.Core.Path.{sym, ◌∙◌}
-use borrow.Author.Rules.{rules}
 use Rattle.fast_run.proofs.Cases.{idles, waits, early, ends, sends}
 use Rattle.fast_run.proofs.settle.Goals as goal
 

@@ -5,7 +5,6 @@ use mathlib.Core.Option.{Option, none, some}
 use Prim.Native.Nat.{ℕ, zero-le, ◌≤◌}
 use native.Mathlib.Nat.{sub-zero}
 use native.Mathlib.Omega.{arith}
-use borrow.Author.Rules.{rules}
 use lib.ListN.{length, take}
 use Rattle.sizes.specs.Words.{maybe}
 use Rattle.text.specs.Bytes.{part}
@@ -38,4 +37,4 @@ returns-in_default c = λ short.
 
 pub returns : goal.returns
 returns c = λ short.
-    spells (c.read-hex.ensures (omega arith)) _ c.n.given.1 c.part.ensures c.read.ensures
+    spells (c.read_hex.ensures (omega arith)) _ c.in-Bytes.is c.part.ensures c.read.ensures

@@ -1,13 +1,11 @@
 -- `record_program::write_words` is safe and ends: the numbers fit where they are taken.
 use mathlib.Core.Path.{sym, ◌∙◌}
 use native.Mathlib.Omega.{arith}
-use borrow.Author.Rules.{rules}
-use borrow.Author.Tests.{not-false}
 use Rattle.record_program.proofs.NumberLaws.{fitting}
 use Rattle.record_program.proofs.write_words.Goals as goal
 
 pub record_of-requires : goal.record_of-requires
-record_of-requires c = sym c.in_range.ensures ∙ not-false _ c.if-not-in_range.false
+record_of-requires c = sym c.in_range.ensures ∙ c.if-not-in_range.false
 
 pub overflow_cast-result : goal.overflow_cast-result
-overflow_cast-result c = omega (arith, (fitting _ (sym c.in_range.ensures ∙ not-false _ c.if-not-in_range.false)).1)
+overflow_cast-result c = omega (arith, (fitting _ (sym c.in_range.ensures ∙ c.if-not-in_range.false)).1)

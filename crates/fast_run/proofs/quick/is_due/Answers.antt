@@ -1,7 +1,6 @@
 use mathlib.Core.Path.{sym, ◌∙◌, ap}
 use mathlib.Core.Bool.{not}
 use borrow.Author.Tests.{eq-eqb, ne_eqb}
-use borrow.Author.Rules.{rules}
 use Rattle.fast_run.specs.Quick.{is_due}
 use Rattle.fast_run.proofs.Steps.{due_by}
 use Rattle.fast_run.proofs.quick.is_due.Goals as goal

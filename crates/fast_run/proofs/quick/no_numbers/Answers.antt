@@ -1,4 +1,3 @@
-use borrow.Author.Rules.{rules}
 use Rattle.fast_run.proofs.quick.no_numbers.Goals as goal
 
 pub returns : goal.returns

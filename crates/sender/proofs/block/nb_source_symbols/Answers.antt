@@ -1,5 +1,4 @@
 use mathlib.Core.Path.{sym}
-use borrow.Author.Rules.{rules}
 use Rattle.sizes.proofs.Lengths.{in_large, in_small}
 use Rattle.sender.proofs.block.nb_source_symbols.Goals as goal
 

@@ -1,13 +1,9 @@
-use borrow.Author.Tests.{not-true, not-false}
 use lib.ListN.{length, take, drop}
 use Rattle.sizes.specs.Words.{all}
 use Rattle.sizes.specs.Limits.{largest_window}
-use Rattle.sizes.proofs.Arrays.{all_hit, all_miss, all_end}
-use Rattle.sender.specs.EncoderCalls.{no_open, is_empty}
-use mathlib.Core.Path.{◌≡◌, refl, sym, ◌∙◌}
+use Rattle.sender.specs.EncoderCalls.{is_empty}
+use mathlib.Core.Path.{◌≡◌}
 use Prim.Native.Nat.{◌-◌, ◌≤◌}
-use native.Mathlib.Omega.{arith}
-use borrow.Author.Rules.{rules}
 use Rattle.sender.proofs.blockencoder.all_empty.Given as goal
 
 abbrev pub invariant-loop-i : goal.invariant-loop-i

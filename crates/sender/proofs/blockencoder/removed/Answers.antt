@@ -5,7 +5,7 @@ use borrow.Author.Rules.{rules}
 use lib.ListN.{set}
 use Rattle.sizes.specs.Limits.{largest_window}
 use Rattle.sender.specs.EncoderCalls.{no_open}
-use Rattle.sizes.proofs.Arrays.{Closing, closing_starts, closing_more, closing_ends}
+use Rattle.sizes.proofs.Arrays.{closing_starts, closing_more, closing_ends}
 use Rattle.sender.proofs.blockencoder.removed.Goals as goal
 
 pub loop-j-init : goal.loop-j-init

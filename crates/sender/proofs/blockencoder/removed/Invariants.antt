@@ -1,11 +1,7 @@
-use mathlib.Core.Path.{◌∙◌, ap}
 use Prim.Native.Nat.{◌-◌}
-use native.Mathlib.Omega.{arith}
-use borrow.Author.Rules.{rules}
-use lib.ListN.{set}
 use Rattle.sizes.specs.Limits.{largest_window}
 use Rattle.sender.specs.EncoderCalls.{no_open}
-use Rattle.sizes.proofs.Arrays.{Closing, closing_starts, closing_more, closing_ends}
+use Rattle.sizes.proofs.Arrays.{Closing}
 use Rattle.sender.proofs.blockencoder.removed.Given as goal
 
 abbrev pub invariant-loop-j : goal.invariant-loop-j

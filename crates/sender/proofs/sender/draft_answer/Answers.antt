@@ -1,5 +1,4 @@
 use mathlib.Core.Path.{sym, ap}
-use borrow.Author.Rules.{rules}
 use Rattle.sender.specs.SenderCalls.{draft_answer}
 use Rattle.sender.proofs.sender.draft_answer.Goals as goal
 

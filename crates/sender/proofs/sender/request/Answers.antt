@@ -1,5 +1,4 @@
 use Rattle.sender.specs.SenderCalls.{request_of}
-use borrow.Author.Rules.{rules}
 use Rattle.sender.proofs.sender.request.Goals as goal
 
 pub returns : goal.returns

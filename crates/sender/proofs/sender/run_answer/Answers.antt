@@ -1,6 +1,5 @@
 use Rattle.sender.specs.SenderCalls.{answer_of}
 use mathlib.Core.Path.{sym, ap}
-use borrow.Author.Rules.{rules}
 use Rattle.sender.proofs.sender.run_answer.Goals as goal
 
 pub returns-in-Sent : goal.returns-in-Sent

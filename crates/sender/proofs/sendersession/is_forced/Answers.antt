@@ -1,5 +1,4 @@
 use mathlib.Core.Bool.{and-true, and-false}
-use borrow.Author.Rules.{rules}
 use Rattle.sender.specs.SessionCalls.{forced_slot}
 use Rattle.sender.proofs.sendersession.is_forced.Goals as goal
 

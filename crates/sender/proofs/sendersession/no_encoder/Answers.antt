@@ -1,4 +1,3 @@
-use borrow.Author.Rules.{rules}
 use Rattle.sender.proofs.sendersession.no_encoder.Goals as goal
 
 pub returns : goal.returns

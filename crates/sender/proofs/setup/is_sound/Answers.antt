@@ -1,7 +1,6 @@
 use Rattle.sender.specs.SetupCalls.{setup_said}
 use Rattle.lifecycle.proofs.SetupLaws.{Passed, passed, refused_by, by_id}
 use Rattle.sender.proofs.SetupCallsLaws.{few_named, small_named, width_bad, width_has}
-use borrow.Author.Tests.{not-true, not-false}
 use mathlib.Core.Path.{sym, ◌∙◌}
 use borrow.Author.Tests.{le-leb, lt-leb}
 use borrow.Author.Rules.{rules}
@@ -10,17 +9,17 @@ use Rattle.sender.proofs.setup.is_sound.Goals as goal
 pub returns-then-not-is_within : goal.returns-then-not-is_within
 returns-then-not-is_within c =
     let z = c.args.z in
-    sym (refused_by (setup_said z) (λ k. (passed (setup_said z) k).sessions) (few_named z (search rules) (sym c.is_within.ensures ∙ not-true _ c.if-not-is_within.true)))
+    sym (refused_by (setup_said z) (λ k. (passed (setup_said z) k).sessions) (few_named z (search rules) (sym c.is_within.ensures ∙ c.if-not-is_within.true)))
 
 pub returns-then-not-is_within-2 : goal.returns-then-not-is_within-2
 returns-then-not-is_within-2 c =
     let s = setup_said c.args.z in
-    sym (refused_by s (λ k. (passed s k).window) (sym c.is_within-2.ensures ∙ not-true _ c.if-not-is_within-2.true))
+    sym (refused_by s (λ k. (passed s k).window) (sym c.is_within-2.ensures ∙ c.if-not-is_within-2.true))
 
 pub returns-then-not-are_sound_sizes : goal.returns-then-not-are_sound_sizes
 returns-then-not-are_sound_sizes c =
     let s = setup_said c.args.z in
-    sym (refused_by s (λ k. (passed s k).sizes) (sym c.are_sound_sizes.ensures ∙ not-true _ c.if-not-are_sound_sizes.true))
+    sym (refused_by s (λ k. (passed s k).sizes) (sym c.are_sound_sizes.ensures ∙ c.if-not-are_sound_sizes.true))
 
 pub returns-then-z-gt-LONGEST_STORE : goal.returns-then-z-gt-LONGEST_STORE
 returns-then-z-gt-LONGEST_STORE c =
@@ -42,9 +41,9 @@ returns c =
     let z = c.args.z in
     let o = c.well_formed in
     let p : Passed (setup_said z) = record {
-      sessions = few_named z (search rules) (sym c.is_within.ensures ∙ not-false _ c.if-not-is_within.false);
-      window = sym c.is_within-2.ensures ∙ not-false _ c.if-not-is_within-2.false;
-      sizes = sym c.are_sound_sizes.ensures ∙ not-false _ c.if-not-are_sound_sizes.false;
+      sessions = few_named z (search rules) (sym c.is_within.ensures ∙ c.if-not-is_within.false);
+      window = sym c.is_within-2.ensures ∙ c.if-not-is_within-2.false;
+      sizes = sym c.are_sound_sizes.ensures ∙ c.if-not-are_sound_sizes.false;
       object_store = le-leb _ _ c.if-z-gt-LONGEST_STORE.false;
       fdt_store = le-leb _ _ c.if-z-gt-LONGEST_STORE-2.false;
       width = width_has _ _ (sym c.width_of.ensures ∙ c.in_default.is);

@@ -1,5 +1,4 @@
 use Rattle.sender.specs.SetupCalls.{opening_sender}
-use borrow.Author.Rules.{rules}
 use Rattle.sender.proofs.setup.open.Goals as goal
 
 pub returns : goal.returns

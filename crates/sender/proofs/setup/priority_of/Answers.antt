@@ -1,6 +1,5 @@
 use Rattle.sender.specs.SetupCalls.{priority_at}
 use borrow.Author.Tests.{lt-ltb, le-ltb}
-use borrow.Author.Rules.{rules}
 use Rattle.sender.proofs.setup.priority_of.Goals as goal
 
 pub returns-then-i-n : goal.returns-then-i-n

@@ -5,7 +5,6 @@ use Rattle.sender.specs.declared.setup.Opened.{Opened}
 use Rattle.sender.specs.declared.setup.Setup.{Setup}
 use mathlib.Core.Path.{◌∙◌, ap}
 use native.Mathlib.Omega.{arith}
-use borrow.Author.Rules.{rules}
 use Rattle.sender.proofs.setup.refused.Goals as goal
 
 pub open-requires : goal.open-requires

@@ -1,5 +1,5 @@
 use Rattle.sender.specs.SetupCalls.{width_said}
-use borrow.Author.Tests.{ne_eqb}
+use Rattle.std.proofs.Common.{tests, rules}
 use Rattle.sender.proofs.setup.width_of.Goals as goal
 
 pub returns-in-16 : goal.returns-in-16
@@ -20,7 +20,4 @@ returns-in-64 c = rw c.in-64.is
 
 pub returns-in_default : goal.returns-in_default
 unfolding width_said
-returns-in_default c =
-    let n = c.args.n in
-    let r = c.in_default.in_default-own.rest in
-    rw (ne_eqb n 16 r.0.0.0.1, ne_eqb n 32 r.0.0.1, ne_eqb n 48 r.0.1, ne_eqb n 64 r.1)
+returns-in_default c = search (tests, rules)

@@ -1,5 +1,4 @@
 -- `text::bytes::is_member` meets its contract, class by class.
-use borrow.Author.Rules.{rules}
 use Rattle.text.specs.Bytes.{member, ink, in_line}
 use Rattle.text.proofs.bytes.is_member.Goals as goal
 

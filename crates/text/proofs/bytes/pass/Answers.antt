@@ -1,11 +1,6 @@
 -- `text::bytes::pass` meets its contract. The invariant: the run that is looked for ends where the run from i on ends.
-use mathlib.Core.Path.{◌≡◌, refl, sym, ◌∙◌}
-use Prim.Native.Nat.{◌-◌}
+use mathlib.Core.Path.{refl, sym, ◌∙◌}
 use native.Mathlib.Omega.{arith}
-use borrow.Author.Tests.{not-true, not-false}
-use borrow.Author.Rules.{rules}
-use lib.ListN.{length}
-use Rattle.text.specs.Bytes.{member, pass}
 use Rattle.text.proofs.Lists.{pass_more, pass_stop, pass_end}
 use Rattle.text.proofs.bytes.pass.Goals as goal
 
@@ -14,11 +9,11 @@ loop-i-init c = refl
 
 pub returns-then-not-is_member : goal.returns-then-not-is_member
 returns-then-not-is_member c =
-    sym (c.loop-i.invariant ∙ pass_stop _ _ c.loop-i.i (omega arith) (sym c.is_member.ensures ∙ not-true _ c.if-not-is_member.true))
+    sym (c.loop-i.invariant ∙ pass_stop _ _ c.loop-i.i (omega arith) (sym c.is_member.ensures ∙ c.if-not-is_member.true))
 
 pub loop-i-preserved : goal.loop-i-preserved
 loop-i-preserved c =
-    c.loop-i.invariant ∙ pass_more _ _ c.loop-i.i (omega arith) (sym c.is_member.ensures ∙ not-false _ c.if-not-is_member.false)
+    c.loop-i.invariant ∙ pass_more _ _ c.loop-i.i (omega arith) (sym c.is_member.ensures ∙ c.if-not-is_member.false)
 
 pub returns : goal.returns
 returns c = sym (c.loop-i.invariant ∙ pass_end _ _ c.loop-i.i (omega arith))

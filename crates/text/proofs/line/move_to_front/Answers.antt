@@ -1,9 +1,9 @@
 -- `text::line::move_to_front` meets its contract. The invariant: the first i bytes are moved, and from i on nothing has changed.
 use mathlib.Core.Path.{◌≡◌, refl, ◌∙◌}
-use Prim.Native.Nat.{◌+◌, ◌-◌, ◌<◌, ◌≤◌}
+use Prim.Native.Nat.{◌+◌, ◌<◌}
 use native.Mathlib.Omega.{arith}
 use borrow.Author.Rules.{rules}
-use lib.ListN.{length, take, drop, length-set}
+use lib.ListN.{length, length-set}
 use Rattle.text.proofs.Lists.{moved_front, moved_rest}
 use Rattle.text.proofs.line.move_to_front.Goals as goal
 

@@ -1,13 +1,12 @@
 -- `text::line::next_line` meets its contract.
 use native.Mathlib.Omega.{arith}
-use borrow.Author.Rules.{rules}
 use Rattle.text.proofs.line.next_line.Goals as goal
 
 pub returns-then-at : goal.returns-then-at
-returns-then-at c = record { taken = c.take_line-at.ensures; left = rw c.if-at.true; less = λ h. h }
+returns-then-at g c = record { taken = c.take_line-at.ensures; left = rw c.if-at.true; less = λ h. h }
 
 pub returns-then-was-eq0 : goal.returns-then-was-eq0
-returns-then-was-eq0 c =
+returns-then-was-eq0 g c =
     record {
       taken = c.take_line-at.ensures;
       left = rw c.if-at.false (omega arith);
@@ -15,7 +14,7 @@ returns-then-was-eq0 c =
     }
 
 pub returns : goal.returns
-returns c =
+returns g c =
     record {
       taken = c.take_line-at.ensures;
       left = rw c.if-at.false;

@@ -1,6 +1,5 @@
 -- `text::line::open_lines` meets its contract.
-use borrow.Author.Rules.{rules}
 use Rattle.text.proofs.line.open_lines.Goals as goal
 
 pub returns : goal.returns
-returns c = rw c.unread.ensures at c.next_line.ensures
+returns g c = rw c.unread.ensures at c.next_line.ensures

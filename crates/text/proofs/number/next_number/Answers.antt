@@ -1,5 +1,4 @@
 -- `text::number::next_number` meets its contract: what is found of the word and of its number picks the case of `field_from`.
-use borrow.Author.Rules.{rules}
 use Rattle.text.specs.Numbers.{field_from, field_at, field_of}
 use Rattle.text.proofs.Numbers.{next_number}
 use Rattle.text.proofs.number.next_number.Goals as goal

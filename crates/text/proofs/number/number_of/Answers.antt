@@ -1,18 +1,14 @@
 -- `text::number::number_of` meets its contract. The invariant: the bytes before i are digits, and n is what they stand for.
-use mathlib.Core.Path.{◌≡◌, refl, sym, ◌∙◌, ap}
-use Prim.Native.Nat.{ℕ, ◌-◌, ◌<◌, ◌≤◌}
+use mathlib.Core.Path.{refl, sym, ◌∙◌, ap}
+use Prim.Native.Nat.{ℕ}
 use native.Mathlib.Omega.{arith}
-use borrow.Author.Tests.{not-true, not-false}
 use borrow.Author.Rules.{rules}
-use lib.ListN.{length, take, drop}
+use lib.ListN.{take}
 use lib.Seq.{take_all}
 use mathlib.Core.List.{List}
-use Rattle.text.specs.Numbers.{all_digits, value_from, in_width}
-use Rattle.text.proofs.Numbers.{value_more, digits_more, digits_stop, digits_end, number_empty, number_none, number_some}
+use Rattle.text.specs.Numbers.{value_from, in_width}
+use Rattle.text.proofs.Numbers.{value_more, digits_more, digits_stop, digits_end, number_none, number_some}
 use Rattle.text.proofs.number.number_of.Goals as goal
-
-pub returns-then-w-eq0 : goal.returns-then-w-eq0
-returns-then-w-eq0 c = sym (number_empty _ c.if-w-eq0.true)
 
 pub loop-i-init : goal.loop-i-init
 unfolding value_from in_width
@@ -20,15 +16,15 @@ loop-i-init c = (search rules, omega arith, refl, refl)
 
 pub returns-then-not-is_digit : goal.returns-then-not-is_digit
 returns-then-not-is_digit c =
-    sym (number_none _ (c.loop-i.invariant.2 ∙ digits_stop _ c.loop-i.i (omega arith) (sym c.is_digit.ensures ∙ not-true _ c.if-not-is_digit.true)))
+    sym (number_none _ (c.loop-i.invariant.2 ∙ digits_stop _ c.loop-i.i (omega arith) (sym c.is_digit.ensures ∙ c.if-not-is_digit.true)))
 
 pub with_digit-n-requires : goal.with_digit-n-requires
-with_digit-n-requires c = sym c.is_digit.ensures ∙ not-false _ c.if-not-is_digit.false
+with_digit-n-requires c = sym c.is_digit.ensures ∙ c.if-not-is_digit.false
 
 pub loop-i-preserved : goal.loop-i-preserved
 loop-i-preserved c =
     let w = c.args.w.now in
-    let d = sym c.is_digit.ensures ∙ not-false _ c.if-not-is_digit.false in (
+    let d = sym c.is_digit.ensures ∙ c.if-not-is_digit.false in (
       omega arith,
       c.loop-i.invariant.1,
       c.loop-i.invariant.2 ∙ digits_more w c.loop-i.i (omega arith) d,

@@ -1,13 +1,7 @@
-use mathlib.Core.Path.{◌≡◌, refl, sym, ◌∙◌, ap}
-use Prim.Native.Nat.{ℕ, ◌-◌, ◌<◌, ◌≤◌}
-use native.Mathlib.Omega.{arith}
-use borrow.Author.Tests.{not-true, not-false}
-use borrow.Author.Rules.{rules}
+use mathlib.Core.Path.{◌≡◌}
+use Prim.Native.Nat.{◌-◌, ◌<◌, ◌≤◌}
 use lib.ListN.{length, take, drop}
-use lib.Seq.{take_all}
-use mathlib.Core.List.{List}
 use Rattle.text.specs.Numbers.{all_digits, value_from, in_width}
-use Rattle.text.proofs.Numbers.{value_more, digits_more, digits_stop, digits_end, number_empty, number_none, number_some}
 use Rattle.text.proofs.number.number_of.Given as goal
 
 abbrev pub invariant-loop-i : goal.invariant-loop-i

@@ -1,7 +1,6 @@
 -- `text::number::with_digit` meets its contract: v times 10 and a digit are summed only where the sum fits.
 use mathlib.Core.Path.{sym, ◌∙◌}
 use native.Mathlib.Omega.{arith}
-use borrow.Author.Rules.{rules}
 use Rattle.text.proofs.Numbers.{digit_range, width_fits, width_past, width_value, width_past_only, width_read}
 use Rattle.text.proofs.number.with_digit.Goals as goal
 

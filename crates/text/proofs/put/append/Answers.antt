@@ -1,12 +1,9 @@
 -- `text::put::append` meets its contract. The invariant: the first i bytes of the text stand there.
-use mathlib.Core.Path.{◌≡◌}
-use Prim.Native.Nat.{◌+◌, ◌-◌, ◌≤◌}
 use native.Mathlib.Numerals.{add-one}
 use native.Mathlib.Omega.{arith}
 use borrow.Author.Rules.{rules}
-use lib.ListN.{length, take, get_or}
+use lib.ListN.{get_or}
 use lib.Seq.{take-suc, take_all}
-use Rattle.text.specs.Put.{Appended}
 use Rattle.text.proofs.Appends.{nothing_more, byte_behind}
 use Rattle.text.proofs.put.append.Goals as goal
 

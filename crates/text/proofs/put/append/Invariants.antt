@@ -1,12 +1,7 @@
 use mathlib.Core.Path.{◌≡◌}
 use Prim.Native.Nat.{◌+◌, ◌-◌, ◌≤◌}
-use native.Mathlib.Numerals.{add-one}
-use native.Mathlib.Omega.{arith}
-use borrow.Author.Rules.{rules}
-use lib.ListN.{length, take, get_or}
-use lib.Seq.{take-suc, take_all}
+use lib.ListN.{length, take}
 use Rattle.text.specs.Put.{Appended}
-use Rattle.text.proofs.Appends.{nothing_more, byte_behind}
 use Rattle.text.proofs.put.append.Given as goal
 
 abbrev pub invariant-loop-i : goal.invariant-loop-i

@@ -1,6 +1,5 @@
 -- `text::put::put_next` meets its contract: the number stands behind the blank.
 use native.Mathlib.Omega.{arith}
-use borrow.Author.Rules.{rules}
 use Rattle.text.proofs.Appends.{both}
 use Rattle.text.proofs.put.put_next.Goals as goal
 

@@ -1,6 +1,5 @@
 -- `text::put::put_number` meets its contract: the digits are as many as the number has.
 use native.Mathlib.Omega.{arith}
-use borrow.Author.Rules.{rules}
 use Rattle.text.specs.Put.{decimal}
 use Rattle.text.proofs.Appends.{counted}
 use Rattle.text.proofs.put.put_number.Goals as goal
@@ -9,4 +8,4 @@ pub returns : goal.returns
 unfolding decimal
 returns c =
     let n = c.args.n in
-    rw (counted n n c.decimal-k.result (omega arith) c.decimal-k.ensures.1.0, ← c.decimal-k.ensures.1.1) c.put_text.ensures
+    rw (counted n n c.decimal-k.result (omega arith) c.decimal-k.ensures.len, ← c.decimal-k.ensures.digits) c.put_text.ensures

@@ -1,6 +1,5 @@
 -- `text::put::put_text` meets its contract.
 use native.Mathlib.Omega.{arith}
-use borrow.Author.Rules.{rules}
 use Rattle.text.proofs.Appends.{left_out, put_in}
 use Rattle.text.proofs.put.put_text.Goals as goal
 

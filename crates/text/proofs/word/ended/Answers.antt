@@ -1,5 +1,4 @@
 -- `text::word::ended` meets its contract.
-use borrow.Author.Rules.{rules}
 use Rattle.text.proofs.word.ended.Goals as goal
 
 pub returns-in_default : goal.returns-in_default

@@ -1,10 +1,7 @@
 -- `text::word::is_word` meets its contract. The invariant: whether the two are the same is left to the bytes from i on.
-use mathlib.Core.Path.{◌≡◌, refl, sym, ◌∙◌}
-use Prim.Native.Nat.{◌-◌, ◌≤◌}
+use mathlib.Core.Path.{refl, sym, ◌∙◌}
 use native.Mathlib.Omega.{arith}
 use borrow.Author.Rules.{rules}
-use lib.ListN.{length, drop}
-use Rattle.text.specs.Words.{same}
 use Rattle.text.proofs.Words.{unlike_lengths, same_more, same_stop, same_end}
 use Rattle.text.proofs.word.is_word.Goals as goal
 

@@ -1,10 +1,7 @@
-use mathlib.Core.Path.{◌≡◌, refl, sym, ◌∙◌}
+use mathlib.Core.Path.{◌≡◌}
 use Prim.Native.Nat.{◌-◌, ◌≤◌}
-use native.Mathlib.Omega.{arith}
-use borrow.Author.Rules.{rules}
 use lib.ListN.{length, drop}
 use Rattle.text.specs.Words.{same}
-use Rattle.text.proofs.Words.{unlike_lengths, same_more, same_stop, same_end}
 use Rattle.text.proofs.word.is_word.Given as goal
 
 abbrev pub invariant-loop-i : goal.invariant-loop-i

@@ -1,6 +1,5 @@
 -- `text::word::next_word` meets its contract.
 use mathlib.Core.Path.{sym}
-use borrow.Author.Rules.{rules}
 use Rattle.text.specs.Bytes.{member}
 use Rattle.text.proofs.Words.{word_none, word_some, next_word}
 use Rattle.text.proofs.word.next_word.Goals as goal

@@ -1,5 +1,4 @@
 use Rattle.sender.specs.EncoderCalls.{is_empty}
-use borrow.Author.Rules.{rules}
 use Rattle.sender.proofs.block.Open.is_empty.Goals as goal
 
 pub returns : goal.returns

@@ -1,5 +1,4 @@
 use Rattle.sender.specs.EncoderCalls.{last_of}
-use borrow.Author.Rules.{rules}
 use Rattle.sender.proofs.blockencoder.BlockEncoder.closes.Goals as goal
 
 pub returns-then-self : goal.returns-then-self

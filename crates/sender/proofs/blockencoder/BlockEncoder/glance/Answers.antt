@@ -6,7 +6,6 @@ use Rattle.sender.proofs.EncoderViews.{free_visited}
 use Rattle.sender.proofs.EncoderReads.{midway_told, midway_visit}
 use mathlib.Core.Path.{◌≡◌, sym, ◌∙◌, ap, subst}
 use native.Mathlib.Omega.{arith}
-use borrow.Author.Rules.{rules}
 use Rattle.sender.proofs.blockencoder.BlockEncoder.glance.Goals as goal
 
 pub offset_bounds-window-place : goal.offset_bounds-window-place

@@ -1,6 +1,5 @@
 use Rattle.sender.specs.EncoderCalls.{has_room}
 use borrow.Author.Tests.{lt-ltb, le-ltb}
-use borrow.Author.Rules.{rules}
 use Rattle.sender.proofs.blockencoder.BlockEncoder.has_room.Goals as goal
 
 pub returns-then-self : goal.returns-then-self

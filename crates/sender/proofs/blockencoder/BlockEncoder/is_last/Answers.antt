@@ -1,6 +1,5 @@
 use Rattle.sender.specs.EncoderCalls.{last_of}
 use borrow.Author.Tests.{le-leb, lt-leb}
-use borrow.Author.Rules.{rules}
 use Rattle.sender.proofs.blockencoder.BlockEncoder.is_last.Goals as goal
 
 pub returns-then-self-p : goal.returns-then-self-p

@@ -4,7 +4,6 @@ use Rattle.sender.proofs.EncoderViews.{visited_stuck}
 use mathlib.Core.Path.{sym, ◌∙◌}
 use native.Mathlib.Omega.{arith}
 use borrow.Author.Tests.{lt-ltb, le-ltb, eq-eqb, ne_eqb, not-true, not-false}
-use borrow.Author.Rules.{rules}
 use Rattle.sender.proofs.blockencoder.BlockEncoder.is_midway.Goals as goal
 
 pub returns-then-self : goal.returns-then-self

@@ -2,7 +2,6 @@ use Rattle.sender.specs.EncoderCalls.{stuck}
 use Rattle.sender.proofs.EncoderLaws.{place_inside}
 use native.Mathlib.Omega.{arith}
 use borrow.Author.Tests.{lt-ltb, le-ltb}
-use borrow.Author.Rules.{rules}
 use Rattle.sender.proofs.blockencoder.BlockEncoder.is_stuck.Goals as goal
 
 pub returns-then-self-eq0 : goal.returns-then-self-eq0

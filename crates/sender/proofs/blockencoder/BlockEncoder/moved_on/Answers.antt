@@ -1,6 +1,5 @@
 use Rattle.sender.specs.EncoderCalls.{moved_of}
 use mathlib.Core.Path.{refl}
-use borrow.Author.Rules.{rules}
 use Rattle.sender.proofs.blockencoder.BlockEncoder.moved_on.Goals as goal
 
 pub returns : goal.returns

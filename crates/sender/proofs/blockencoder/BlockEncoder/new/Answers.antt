@@ -1,5 +1,4 @@
 use Rattle.sender.specs.EncoderCalls.{new_of}
-use borrow.Author.Rules.{rules}
 use Rattle.sender.proofs.blockencoder.BlockEncoder.new.Goals as goal
 
 pub returns : goal.returns

@@ -4,7 +4,6 @@ use Rattle.sender.proofs.Offsets.{offset_early, rank_low}
 use mathlib.Core.Path.{sym, ap}
 use Prim.Native.Nat.{◌+◌, ◌*◌}
 use native.Mathlib.Omega.{arith}
-use borrow.Author.Rules.{rules}
 use Rattle.sender.proofs.blockencoder.BlockEncoder.offset.Goals as goal
 
 pub overflow_mul-result : goal.overflow_mul-result

@@ -2,7 +2,6 @@ use Rattle.sender.proofs.Offsets.{offset_inside}
 use mathlib.Core.Path.{◌≡◌}
 use Prim.Native.Nat.{min, ◌-◌}
 use native.Mathlib.Omega.{arith}
-use borrow.Author.Rules.{rules}
 use Rattle.sender.proofs.blockencoder.BlockEncoder.payload.Goals as goal
 
 pub overflow_sub-rest : goal.overflow_sub-rest

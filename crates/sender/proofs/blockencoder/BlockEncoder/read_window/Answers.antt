@@ -1,9 +1,8 @@
 use Rattle.sender.proofs.EncoderLaws.{missing, missing_less}
 use Rattle.sender.specs.EncoderCalls.{ValidEncoder, filled_of}
 use Rattle.sender.proofs.EncoderLaws.{valid_one, filled_more, filled_none}
-use mathlib.Core.Path.{◌≡◌, refl, sym, ◌∙◌, ap, subst}
+use mathlib.Core.Path.{refl, sym, ◌∙◌, ap, subst}
 use native.Mathlib.Omega.{arith}
-use borrow.Author.Rules.{rules}
 use Rattle.sender.proofs.blockencoder.BlockEncoder.read_window.Goals as goal
 
 pub loop-x-init : goal.loop-x-init

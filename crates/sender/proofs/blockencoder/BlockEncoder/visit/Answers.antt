@@ -6,7 +6,6 @@ use Rattle.sender.proofs.Offsets.{esi_small}
 use mathlib.Core.Path.{◌≡◌, sym, subst}
 use Prim.Native.Nat.{◌<◌, ◌≤◌}
 use native.Mathlib.Omega.{arith}
-use borrow.Author.Rules.{rules}
 use Rattle.sizes.specs.Limits.{largest_block}
 use Rattle.sender.proofs.blockencoder.BlockEncoder.visit.Goals as goal
 

@@ -1,7 +1,6 @@
 use Rattle.sender.specs.EncoderCalls.{without_of}
 use Rattle.sender.proofs.EncoderLaws.{place_inside}
 use native.Mathlib.Omega.{arith}
-use borrow.Author.Rules.{rules}
 use Rattle.sender.proofs.blockencoder.BlockEncoder.without.Goals as goal
 
 pub removed-window-requires : goal.removed-window-requires

@@ -3,7 +3,6 @@ use Rattle.lifecycle.specs.FdtCalls.{next_fdt_of}
 use Rattle.sender.specs.FdtSessionCalls.{FdtRuns, fdt_sent_of}
 use Rattle.sender.proofs.FdtSessionLaws.{attempted_busy, attempted_left, attempted_begun, left_tries, begun_tries}
 use mathlib.Core.Path.{sym, ◌∙◌, ap, subst}
-use borrow.Author.Rules.{rules}
 use Rattle.sender.proofs.fdtsession.FdtSession.attempt.Goals as goal
 
 pub returns-then-self : goal.returns-then-self
@@ -22,7 +21,7 @@ returns-then-n c =
     let n = c.get_next_fdt_transfer-n in
     let q = n.ensures ∙ ap (λ d. next_fdt_of c.args.now d c.args.fdt) c.left_draft.ensures in
     c.send-then-n.ensures
-    ∙ ap (λ c.before.before.before.before.before. fdt_sent_of c.args.now c.before.before.before.before.before n.result.fdt c.begin-self.result) c.either-told.ensures
+    ∙ ap (λ b. fdt_sent_of c.args.now b n.result.fdt c.begin-self.result) c.either-told.ensures
     ∙ ap (fdt_sent_of c.args.now (c.args.taken || n.result.taken) n.result.fdt) c.begin-self.ensures
     ∙ attempted_begun c.args.width c.args.now c.args.draft c.args.taken c.args.fdt c.args.self c.if-self.false n.result q c.if-n.true
 
@@ -38,5 +37,5 @@ returns c =
     let n = c.get_next_fdt_transfer-n in
     let q = n.ensures ∙ ap (λ d. next_fdt_of c.args.now d c.args.fdt) c.left_draft.ensures in
     c.send-2.ensures
-    ∙ ap (λ c.before.before.before.before. fdt_sent_of c.args.now c.before.before.before.before n.result.fdt c.args.self) c.either-told.ensures
+    ∙ ap (λ b. fdt_sent_of c.args.now b n.result.fdt c.args.self) c.either-told.ensures
     ∙ attempted_left c.args.width c.args.now c.args.draft c.args.taken c.args.fdt c.args.self c.if-self.false n.result q c.if-n.false

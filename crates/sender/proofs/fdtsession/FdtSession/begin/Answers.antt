@@ -1,5 +1,4 @@
 use Rattle.sender.specs.FdtSessionCalls.{fdt_begun_of}
-use borrow.Author.Rules.{rules}
 use Rattle.sender.proofs.fdtsession.FdtSession.begin.Goals as goal
 
 pub returns : goal.returns

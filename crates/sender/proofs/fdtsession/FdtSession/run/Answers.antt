@@ -1,10 +1,4 @@
-use mathlib.Core.Logic.{⊎_elim}
-use denote.Enum.Declared.{tag_of}
-use Rattle.sender.specs.contracts.sendersession.Outcome.{the_type}
 use Rattle.sender.proofs.FdtSessionLaws.{round_tries, ran_over, ran_once}
-use mathlib.Core.Path.{ap}
-use native.Mathlib.Omega.{arith}
-use borrow.Author.Rules.{rules}
 use Rattle.sender.proofs.fdtsession.FdtSession.run.Goals as goal
 
 pub attempt-requires : goal.attempt-requires
@@ -21,4 +15,4 @@ pub returns : goal.returns
 returns c =
     let a = c.attempt-a in
     ran_once c.args.width c.args.now c.args.draft c.args.fdt c.args.self a.result a.ensures
-    (λ e. let t = ap (tag_of the_type) e in ⊎_elim (λ k. omega arith) (λ k. omega arith) c.in_default.in_default-own.keys2)
+    c.in_default.not-Over

@@ -1,7 +1,6 @@
 use Rattle.sender.specs.SenderCalls.{with_list, Completes}
 use Rattle.sender.proofs.SenderKept.{completes}
 use mathlib.Core.Path.{sym, ap, subst}
-use borrow.Author.Rules.{rules}
 use Rattle.sender.proofs.sender.Sender.complete.Goals as goal
 
 pub returns : goal.returns

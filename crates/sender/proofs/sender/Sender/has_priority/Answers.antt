@@ -1,10 +1,6 @@
-use lib.ListN.{length, take, drop}
-use Rattle.sizes.specs.Words.{any}
-use Rattle.sizes.specs.Limits.{most_sessions}
 use Rattle.sizes.proofs.Arrays.{any_hit, any_miss, any_end}
 use Rattle.sender.specs.SenderCalls.{has_priority}
-use mathlib.Core.Path.{◌≡◌, refl, sym, ◌∙◌}
-use Prim.Native.Nat.{◌-◌, ◌≤◌}
+use mathlib.Core.Path.{refl, sym, ◌∙◌}
 use native.Mathlib.Omega.{arith}
 use borrow.Author.Tests.{eq-eqb, ne_eqb}
 use borrow.Author.Rules.{rules}

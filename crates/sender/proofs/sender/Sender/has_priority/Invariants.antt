@@ -1,13 +1,9 @@
 use lib.ListN.{length, take, drop}
 use Rattle.sizes.specs.Words.{any}
 use Rattle.sizes.specs.Limits.{most_sessions}
-use Rattle.sizes.proofs.Arrays.{any_hit, any_miss, any_end}
 use Rattle.sender.specs.SenderCalls.{has_priority}
-use mathlib.Core.Path.{◌≡◌, refl, sym, ◌∙◌}
+use mathlib.Core.Path.{◌≡◌}
 use Prim.Native.Nat.{◌-◌, ◌≤◌}
-use native.Mathlib.Omega.{arith}
-use borrow.Author.Tests.{eq-eqb, ne_eqb}
-use borrow.Author.Rules.{rules}
 use Rattle.sender.proofs.sender.Sender.has_priority.Given as goal
 
 abbrev pub invariant-loop-i : goal.invariant-loop-i

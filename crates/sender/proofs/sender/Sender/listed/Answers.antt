@@ -1,7 +1,6 @@
 use Rattle.sender.specs.SenderCalls.{Lists}
 use Rattle.sender.proofs.SenderKept.{lists}
 use mathlib.Core.Path.{sym, subst}
-use borrow.Author.Rules.{rules}
 use Rattle.sender.proofs.sender.Sender.listed.Goals as goal
 
 pub returns : goal.returns

@@ -4,7 +4,6 @@ use Rattle.sender.specs.declared.sender.Sender.{Sender}
 use Rattle.sender.specs.declared.sender.Releasing.{Releasing}
 use Rattle.sender.proofs.SenderKept.{releases}
 use mathlib.Core.Path.{sym, ◌∙◌, ap, subst}
-use borrow.Author.Rules.{rules}
 use Rattle.sender.proofs.sender.Sender.release.Goals as goal
 
 pub returns : goal.returns

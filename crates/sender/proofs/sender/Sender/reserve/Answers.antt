@@ -4,7 +4,6 @@ use Rattle.sender.specs.declared.sender.Sender.{Sender}
 use Rattle.sender.specs.declared.sender.Reserving.{Reserving}
 use Rattle.sender.proofs.SenderKept.{reserves}
 use mathlib.Core.Path.{sym, ◌∙◌, ap, subst}
-use borrow.Author.Rules.{rules}
 use Rattle.sender.proofs.sender.Sender.reserve.Goals as goal
 
 pub returns : goal.returns

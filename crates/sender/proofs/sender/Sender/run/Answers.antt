@@ -11,7 +11,6 @@ use Rattle.sender.proofs.SenderKept.{runs, run_refused, run_goes, ran_sender}
 use mathlib.Core.Path.{sym, ◌∙◌, ap, subst}
 use Prim.Native.Nat.{◌<◌}
 use native.Mathlib.Omega.{arith}
-use borrow.Author.Rules.{rules}
 use Rattle.sender.proofs.sender.Sender.run.Goals as goal
 
 pub returns-then-self-i : goal.returns-then-self-i

@@ -1,5 +1,5 @@
 use mathlib.Core.Bool.{true, false}
-use Rattle.lifecycle.specs.FdtCalls.{real_draft, draft_test_of}
+use Rattle.lifecycle.specs.FdtCalls.{draft_test_of}
 use Rattle.lifecycle.specs.declared.announce.Draft.{Draft}
 use Rattle.sender.specs.FdtSessionCalls.{FdtTries, fdt_ran_of}
 use Rattle.sender.specs.SenderCalls.{with_fdt_session, answer_of, RunsFdt}
@@ -9,7 +9,6 @@ use Rattle.sender.specs.declared.sender.Running.{Running}
 use Rattle.sender.proofs.DeskFdtRuns.{tries_ready}
 use Rattle.sender.proofs.SenderKept.{fdt_runs, fdt_refused, looked_at, fdt_goes, fdt_ran_sender}
 use mathlib.Core.Path.{sym, ◌∙◌, ap, subst}
-use borrow.Author.Rules.{rules}
 use Rattle.sender.proofs.sender.Sender.run_fdt.Goals as goal
 
 pub returns-then-is_bad : goal.returns-then-is_bad

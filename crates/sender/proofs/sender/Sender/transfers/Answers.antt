@@ -1,5 +1,4 @@
 use Rattle.sender.proofs.SenderKept.{totals}
-use borrow.Author.Rules.{rules}
 use Rattle.sender.proofs.sender.Sender.transfers.Goals as goal
 
 pub returns : goal.returns

@@ -1,5 +1,4 @@
 use mathlib.Core.Path.{◌≡◌, refl}
-use borrow.Author.Rules.{rules}
 use Rattle.sender.specs.SessionCalls.{attended_of, ran_by}
 use Rattle.sender.specs.declared.sendersession.Outcome.{Outcome}
 use Rattle.sender.specs.declared.sendersession.Turn.{Turn}
@@ -16,4 +15,4 @@ unfolding attended_of
 returns c =
     let r = c.serve-r.result in
     rw (← c.slot_at.ensures, ← c.is_forced.ensures, ← c.need_transfer_fdt.ensures, ← c.serve-r.ensures)
-    (not_over (λ (z : Outcome). ◌≡◌ {A = Turn} (record { answer = z; fdt = c.args.fdt; session = r.session }) (ran_by c.args.now c.args.fdt c.args.self r.session z)) r.answer c.in_default.in_default-own.keys2 refl (λ y. refl))
+    (not_over (λ (z : Outcome). ◌≡◌ {A = Turn} (record { answer = z; fdt = c.args.fdt; session = r.session }) (ran_by c.args.now c.args.fdt c.args.self r.session z)) r.answer c.in_default.not-Over refl (λ y. refl))

@@ -1,4 +1,3 @@
-use borrow.Author.Rules.{rules}
 use Rattle.sender.specs.SessionCalls.{begun_of}
 use Rattle.sender.proofs.sendersession.SenderSession.begin.Goals as goal
 

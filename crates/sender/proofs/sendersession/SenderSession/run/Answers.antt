@@ -1,5 +1,4 @@
 use mathlib.Core.Path.{◌≡◌, refl, sym, ◌∙◌, ap, subst}
-use borrow.Author.Rules.{rules}
 use Rattle.sender.specs.SessionCalls.{Holds, again_by}
 use Rattle.sender.specs.declared.sendersession.Outcome.{Outcome}
 use Rattle.sender.specs.declared.sendersession.Turn.{Turn}
@@ -21,7 +20,7 @@ returns-in-Over c =
 pub returns-then-self : goal.returns-then-self
 returns-then-self c =
     let r = c.attend-a.result in
-    not_over (λ (z : Outcome). r ≡ again_by c.args.width c.args.now r z) r.answer c.in_default.in_default-own.keys2 refl (λ y. refl) ∙ sym (ran_busy c.args.width c.args.now c.args.fdt c.args.self c.if-self.true r c.attend-a.ensures)
+    not_over (λ (z : Outcome). r ≡ again_by c.args.width c.args.now r z) r.answer c.in_default.not-Over refl (λ y. refl) ∙ sym (ran_busy c.args.width c.args.now c.args.fdt c.args.self c.if-self.true r c.attend-a.ensures)
 
 pub take_on-requires-2 : goal.take_on-requires-2
 take_on-requires-2 c = (c.requires.holds, c.requires.narrow)

@@ -1,5 +1,4 @@
 use mathlib.Core.Path.{sym, ◌∙◌, ap}
-use borrow.Author.Rules.{rules}
 use Rattle.sender.specs.SessionCalls.{served_of}
 use Rattle.sender.proofs.sendersession.SenderSession.serve.Goals as goal
 

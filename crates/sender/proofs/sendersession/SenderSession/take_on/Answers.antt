@@ -1,6 +1,5 @@
 use mathlib.Core.Path.{◌≡◌, sym, ◌∙◌, ap}
 use Prim.Native.Nat.{◌<◌}
-use borrow.Author.Rules.{rules}
 use Rattle.sizes.specs.Limits.{object_slots}
 use Rattle.lifecycle.specs.FdtCalls.{taken_of}
 use Rattle.sizes.specs.declared.place.Place.TheVariants.{At}
@@ -25,7 +24,7 @@ slot_at-requires c = in_list c
 
 pub attend-requires : goal.attend-requires
 attend-requires c =
-    rw (c.begin-self.ensures, c.slot_at.ensures, c.get_next_file_transfer-t.ensures) (ready_begun c.args.fdt c.requires.0 c.args.width c.args.self.priority c.args.now _ c.requires.1 (found c.before.before))
+    rw (c.begin-self.ensures, c.slot_at.ensures, c.get_next_file_transfer-t.ensures) (ready_begun c.args.fdt c.requires.0 c.args.width c.args.self.priority c.args.now _ c.requires.1 (ap (λ z. z.answer) (sym c.get_next_file_transfer-t.ensures) ∙ c.in-At.is))
 
 pub returns : goal.returns
 unfolding taken_on_of
