@@ -20,12 +20,7 @@ pub fn serve<R: Read, W: Write>(input: &mut R, to: &mut W) {
     answer_all(input, to, objects, fdts);
 }
 
-fn answer_all<'a, R: Read, W: Write>(
-    input: &mut R,
-    to: &mut W,
-    objects: &'a [u8],
-    fdts: &'a [u8],
-) {
+fn answer_all<'a, R: Read, W: Write>(input: &mut R, to: &mut W, objects: &'a [u8], fdts: &'a [u8]) {
     let mut space = [0u8; 65536];
     let buf: &mut [u8] = &mut space;
     let mut desk = play::shut();

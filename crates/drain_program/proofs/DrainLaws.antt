@@ -9,7 +9,7 @@ use lib.Dec.{ltb, leb, eqb}
 use borrow.Author.Tests.{ltb-false, eqb-false, le-ltb, lt-ltb, le-leb, lt-leb, not-false}
 use Rattle.sizes.specs.Words.{ceil, within}
 use Rattle.sizes.specs.Limits.{wide, largest_window, longest_store}
-use Rattle.sizes.specs.Partition.{sbn, symbols_of, split, partition_of, first_symbol, block_start}
+use Rattle.sizes.specs.Partition.{symbols_of, split, partition_of, first_symbol, block_start}
 use Rattle.sizes.specs.declared.numbers.Sbn.{Sbn}
 use Rattle.sizes.specs.declared.partition.Partition.{Partition}
 use Rattle.sizes.proofs.Tests.{or_left, or_right, if_on}

@@ -207,8 +207,8 @@ answers₀_fn ref state result answer f = record {
   ty_params = [];
   givens = 0;
   params = 1;
-  locals = local answer value_local ∷ local ref value_local ∷ local result value_local ∷ local state value_local ∷ [];
-  body = seq (assign (place 3 []) (rv_opd (copy (place 1 (deref state ∷ []))))) (seq (call f (copy (place 3 []) ∷ []) (place 2 [])) (seq (assign (place 1 (deref state ∷ [])) (rv_opd (copy (place 2 (field 1 ∷ []))))) (seq (assign (place 0 []) (rv_opd (copy (place 2 (field 0 ∷ []))))) return)));
+  locals = local answer value_local ∷ local ref value_local ∷ local result value_local ∷ local state value_local ∷ local state value_local ∷ [];
+  body = seq (assign (place 3 []) (rv_opd (copy (place 1 (deref state ∷ []))))) (seq (call f (copy (place 3 []) ∷ []) (place 2 [])) (seq (assign (place 4 []) (rv_opd (copy (place 2 (field 1 ∷ []))))) (seq (assign (place 1 (deref state ∷ [])) (rv_opd (copy (place 4 [])))) (seq (assign (place 0 []) (rv_opd (copy (place 2 (field 0 ∷ []))))) return))));
 }
 
 module _ (S P G : RattleType) where
@@ -266,25 +266,26 @@ module _ (S P G : RattleType) {M : Type 1} {𝓤 : Ura M} (𝓛 : Logic 𝓤) (D
         answers₀_walk =
             qed 𝓛 (((‵ (flft κ q) ⊛ ‵ ftrue) ⊛ ‵ (owns (MutRef (named 0) κ S ∷ []) answers₀_passed answers₀_at)) ∷ raw (Req h) ∷ []) ∵ split ! $ split ! $ move ! (2 ∷ []) $ fsplit ! $ fsplit3 ! $ drop ! $ keep ! (0 ∷ 1 ∷ 3 ∷ 5 ∷ []) $
             enter ! C Λ (answers₀_fn (ty_ref (named 0) mut (pointee S.written)) (lone S.mir) (ty_struct pr.name (tcons (lone P.mir) (tcons (lone S.mir) tnil))) (lone P.mir) f) (vptr b o ∷ []) _ $
-            alloc1 ! (λ l₀. alloc1 ! (λ l₁. alloc1 ! (λ l₂. alloc1 ! (λ l₃. alloc0 ! $ params1 ! $ pass1 ! (init ! 4 refl (tt, tt)) $ pass0 ! $
-            move ! (8 ∷ 9 ∷ 10 ∷ []) $ open_ref ! tt (mem S) {b = b} {o = o} $
+            alloc1 ! (λ l₀. alloc1 ! (λ l₁. alloc1 ! (λ l₂. alloc1 ! (λ l₃. alloc1 ! (λ l₄. alloc0 ! $ params1 ! $ pass1 ! (init ! 6 refl (tt, tt)) $ pass0 ! $
+            move ! (10 ∷ 11 ∷ 12 ∷ []) $ open_ref ! tt (mem S) {b = b} {o = o} $
             use1 𝓛 (given (Is S h (D.mach h ∷ [])) (‵ (fat full_share (lone S.mir) b o (D.mach h)))) (cell_of 𝓛 S D full_share h b o) $ learn ! (λ is.
             -- [the cell; the open borrow; obs; auth; the locals, the last first; the requires]
-            assigns ! (of_opd ! (load ! (from ! (hop ! (look ! 8 refl) (stop !))) (look ! 0 refl))) (from ! (stop !)) (init ! 4 refl (D.typed h is)) $
-            move ! (12 ∷ []) $ use1 𝓛 (raw (answers₀_value.pre answers₀_called)) (answers₀_calls is) $
-            calls_from ! fm (raw (answers₀_value.pre answers₀_called)) (D.mach h ∷ []) (answers₀_value.post answers₀_called) (known answers₀_called) (and_then ! (load ! (from ! (stop !)) (look ! 5 refl)) (no_more !)) (λ v.
+            assigns ! (of_opd ! (load ! (from ! (hop ! (look ! 10 refl) (stop !))) (look ! 0 refl))) (from ! (stop !)) (init ! 6 refl (D.typed h is)) $
+            move ! (14 ∷ []) $ use1 𝓛 (raw (answers₀_value.pre answers₀_called)) (answers₀_calls is) $
+            calls_from ! fm (raw (answers₀_value.pre answers₀_called)) (D.mach h ∷ []) (answers₀_value.post answers₀_called) (known answers₀_called) (and_then ! (load ! (from ! (stop !)) (look ! 7 refl)) (no_more !)) (λ v.
             use1 𝓛 (later (some (λ (r : G.Denot). (‵ ftrue ⊛ ‵ (G.own_val r (v ∷ []))) ⊛ raw (ensured 𝓛 (answers₀_value_ended S P G) answers₀_value_clauses tt (h, tt) tt r)))) (id⊢ 𝓤 _) $ await ! tt $ pick ! (λ r.
             split ! $ move ! (1 ∷ []) $ use1 𝓛 (raw (fact 𝓤 (Ens h (pr.state r) (pr.answer r)))) (answers₀_hears r) $ heard ! (Ens h (pr.state r) (pr.answer r)) (λ e. split ! $ drop ! $
             peeks ! G (Is G) (shows 𝓛 G) r (v ∷ []) (λ gs.
-            land ! (from ! (stop !)) (init ! 7 refl (pr.typed r v gs)) $ drop ! $
-            rewrite ! 6 (λ (w : Val). ‵ (fat full_share (ty_struct pr.name (tcons (lone P.mir) (tcons (lone S.mir) tnil))) l₂ 0 w)) (pr.laid r v gs) refl $
-            assigns ! (of_opd ! (load ! (from ! (fld ! refl (stop !))) (look_in ! 6 (sub ! 1 refl (whole !))))) (from ! (hop ! (look ! 8 refl) (stop !))) (store ! 0 refl (D.typed (pr.state r) (pr.state_is r v gs))) $
-            assigns ! (of_opd ! (load ! (from ! (fld ! refl (stop !))) (look_in ! 6 (sub ! 0 refl (whole !))))) (from ! (stop !)) (init ! 10 refl (E.typed (pr.answer r) (pr.answer_is r v gs))) $
+            land ! (from ! (stop !)) (init ! 9 refl (pr.typed r v gs)) $ drop ! $
+            rewrite ! 8 (λ (w : Val). ‵ (fat full_share (ty_struct pr.name (tcons (lone P.mir) (tcons (lone S.mir) tnil))) l₂ 0 w)) (pr.laid r v gs) refl $
+            assigns ! (of_opd ! (load ! (from ! (fld ! refl (stop !))) (look_in ! 8 (sub ! 1 refl (whole !))))) (from ! (stop !)) (init ! 4 refl (D.typed (pr.state r) (pr.state_is r v gs))) $
+            assigns ! (of_opd ! (load ! (from ! (stop !)) (look ! 4 refl))) (from ! (hop ! (look ! 10 refl) (stop !))) (store ! 0 refl (D.typed (pr.state r) (pr.state_is r v gs))) $
+            assigns ! (of_opd ! (load ! (from ! (fld ! refl (stop !))) (look_in ! 8 (sub ! 0 refl (whole !))))) (from ! (stop !)) (init ! 12 refl (E.typed (pr.answer r) (pr.answer_is r v gs))) $
             use1 𝓛 (‵ (part_at S full_share (pr.state r) b o)) (of_cell 𝓛 S D full_share (pr.state r) b o (pr.state_is r v gs)) $ close_ref ! tt (mem S) (pr.state r) {b = b} {o = o} $
             -- [obs; the borrow; the token; the locals]
-            returns ! (look ! 9 refl) $ forget ! 9 refl $ forget ! 7 refl $ forget ! 5 refl $ forget ! 3 refl $
-            move ! (9 ∷ 10 ∷ []) $ free1 ! $ move ! (7 ∷ 8 ∷ []) $ free1 ! $ move ! (5 ∷ 6 ∷ []) $ free1 ! $ move ! (3 ∷ 4 ∷ []) $ free1 ! $ free0 ! $
-            keep ! (0 ∷ 1 ∷ 2 ∷ []) $ by ! (answers₀_exits r e (pr.answer_is r v gs)))))))))))
+            returns ! (look ! 11 refl) $ forget ! 11 refl $ forget ! 9 refl $ forget ! 7 refl $ forget ! 5 refl $ forget ! 3 refl $
+            move ! (11 ∷ 12 ∷ []) $ free1 ! $ move ! (9 ∷ 10 ∷ []) $ free1 ! $ move ! (7 ∷ 8 ∷ []) $ free1 ! $ move ! (5 ∷ 6 ∷ []) $ free1 ! $ move ! (3 ∷ 4 ∷ []) $ free1 ! $ free0 ! $
+            keep ! (0 ∷ 1 ∷ 2 ∷ []) $ by ! (answers₀_exits r e (pr.answer_is r v gs))))))))))))
 
     answers₀_goes : AllGo 𝓛 1 (answers₀_ended S P G).signature.params (answers₀_ended S P G).kept answers₀_stayed
     answers₀_goes = (Goes-ref 𝓛 1 0 tt (plain (λ κs. S)), tt)
@@ -305,8 +306,8 @@ answers₁_fn ref state result answer τ₁ f = record {
   ty_params = [];
   givens = 0;
   params = 2;
-  locals = local answer value_local ∷ local ref value_local ∷ local τ₁ value_local ∷ local result value_local ∷ local state value_local ∷ [];
-  body = seq (assign (place 4 []) (rv_opd (copy (place 1 (deref state ∷ []))))) (seq (call f (copy (place 4 []) ∷ copy (place 2 []) ∷ []) (place 3 [])) (seq (assign (place 1 (deref state ∷ [])) (rv_opd (copy (place 3 (field 1 ∷ []))))) (seq (assign (place 0 []) (rv_opd (copy (place 3 (field 0 ∷ []))))) return)));
+  locals = local answer value_local ∷ local ref value_local ∷ local τ₁ value_local ∷ local result value_local ∷ local state value_local ∷ local state value_local ∷ [];
+  body = seq (assign (place 4 []) (rv_opd (copy (place 1 (deref state ∷ []))))) (seq (call f (copy (place 4 []) ∷ copy (place 2 []) ∷ []) (place 3 [])) (seq (assign (place 5 []) (rv_opd (copy (place 3 (field 1 ∷ []))))) (seq (assign (place 1 (deref state ∷ [])) (rv_opd (copy (place 5 [])))) (seq (assign (place 0 []) (rv_opd (copy (place 3 (field 0 ∷ []))))) return))));
 }
 
 module _ (S P G X₁ : RattleType) where
@@ -364,25 +365,26 @@ module _ (S P G X₁ : RattleType) {M : Type 1} {𝓤 : Ura M} (𝓛 : Logic �
         answers₁_walk =
             qed 𝓛 (((‵ (flft κ q) ⊛ ‵ ftrue) ⊛ ‵ (owns (MutRef (named 0) κ S ∷ X₁ ∷ []) answers₁_passed answers₁_at)) ∷ raw (Req h x₁) ∷ []) ∵ split ! $ split ! $ move ! (2 ∷ []) $ fsplit ! $ fsplit3 ! $ drop ! $ keep ! (0 ∷ 1 ∷ 3 ∷ 5 ∷ []) $
             enter ! C Λ (answers₁_fn (ty_ref (named 0) mut (pointee S.written)) (lone S.mir) (ty_struct pr.name (tcons (lone P.mir) (tcons (lone S.mir) tnil))) (lone P.mir) (lone X₁.mir) f) (vptr b o ∷ D₁.mach x₁ ∷ []) _ $
-            alloc1 ! (λ l₀. alloc1 ! (λ l₁. alloc1 ! (λ l₂. alloc1 ! (λ l₃. alloc1 ! (λ l₄. alloc0 ! $ params1 ! $ pass1 ! (init ! 6 refl (tt, tt)) $ pass1 ! (init ! 4 refl (D₁.typed x₁ x₁-is)) $ pass0 ! $
-            move ! (10 ∷ 11 ∷ 12 ∷ []) $ open_ref ! tt (mem S) {b = b} {o = o} $
+            alloc1 ! (λ l₀. alloc1 ! (λ l₁. alloc1 ! (λ l₂. alloc1 ! (λ l₃. alloc1 ! (λ l₄. alloc1 ! (λ l₅. alloc0 ! $ params1 ! $ pass1 ! (init ! 8 refl (tt, tt)) $ pass1 ! (init ! 6 refl (D₁.typed x₁ x₁-is)) $ pass0 ! $
+            move ! (12 ∷ 13 ∷ 14 ∷ []) $ open_ref ! tt (mem S) {b = b} {o = o} $
             use1 𝓛 (given (Is S h (D.mach h ∷ [])) (‵ (fat full_share (lone S.mir) b o (D.mach h)))) (cell_of 𝓛 S D full_share h b o) $ learn ! (λ is.
             -- [the cell; the open borrow; obs; auth; the locals, the last first; the requires]
-            assigns ! (of_opd ! (load ! (from ! (hop ! (look ! 10 refl) (stop !))) (look ! 0 refl))) (from ! (stop !)) (init ! 4 refl (D.typed h is)) $
-            move ! (14 ∷ []) $ use1 𝓛 (raw (answers₁_value.pre answers₁_called)) (answers₁_calls is) $
-            calls_from ! fm (raw (answers₁_value.pre answers₁_called)) (D.mach h ∷ D₁.mach x₁ ∷ []) (answers₁_value.post answers₁_called) (known answers₁_called) (and_then ! (load ! (from ! (stop !)) (look ! 5 refl)) (and_then ! (load ! (from ! (stop !)) (look ! 9 refl)) (no_more !))) (λ v.
+            assigns ! (of_opd ! (load ! (from ! (hop ! (look ! 12 refl) (stop !))) (look ! 0 refl))) (from ! (stop !)) (init ! 6 refl (D.typed h is)) $
+            move ! (16 ∷ []) $ use1 𝓛 (raw (answers₁_value.pre answers₁_called)) (answers₁_calls is) $
+            calls_from ! fm (raw (answers₁_value.pre answers₁_called)) (D.mach h ∷ D₁.mach x₁ ∷ []) (answers₁_value.post answers₁_called) (known answers₁_called) (and_then ! (load ! (from ! (stop !)) (look ! 7 refl)) (and_then ! (load ! (from ! (stop !)) (look ! 11 refl)) (no_more !))) (λ v.
             use1 𝓛 (later (some (λ (r : G.Denot). (‵ ftrue ⊛ ‵ (G.own_val r (v ∷ []))) ⊛ raw (ensured 𝓛 (answers₁_value_ended S P G X₁) answers₁_value_clauses tt (h, (x₁, tt)) tt r)))) (id⊢ 𝓤 _) $ await ! tt $ pick ! (λ r.
             split ! $ move ! (1 ∷ []) $ use1 𝓛 (raw (fact 𝓤 (Ens h x₁ (pr.state r) (pr.answer r)))) (answers₁_hears r) $ heard ! (Ens h x₁ (pr.state r) (pr.answer r)) (λ e. split ! $ drop ! $
             peeks ! G (Is G) (shows 𝓛 G) r (v ∷ []) (λ gs.
-            land ! (from ! (stop !)) (init ! 7 refl (pr.typed r v gs)) $ drop ! $
-            rewrite ! 6 (λ (w : Val). ‵ (fat full_share (ty_struct pr.name (tcons (lone P.mir) (tcons (lone S.mir) tnil))) l₃ 0 w)) (pr.laid r v gs) refl $
-            assigns ! (of_opd ! (load ! (from ! (fld ! refl (stop !))) (look_in ! 6 (sub ! 1 refl (whole !))))) (from ! (hop ! (look ! 10 refl) (stop !))) (store ! 0 refl (D.typed (pr.state r) (pr.state_is r v gs))) $
-            assigns ! (of_opd ! (load ! (from ! (fld ! refl (stop !))) (look_in ! 6 (sub ! 0 refl (whole !))))) (from ! (stop !)) (init ! 12 refl (E.typed (pr.answer r) (pr.answer_is r v gs))) $
+            land ! (from ! (stop !)) (init ! 9 refl (pr.typed r v gs)) $ drop ! $
+            rewrite ! 8 (λ (w : Val). ‵ (fat full_share (ty_struct pr.name (tcons (lone P.mir) (tcons (lone S.mir) tnil))) l₃ 0 w)) (pr.laid r v gs) refl $
+            assigns ! (of_opd ! (load ! (from ! (fld ! refl (stop !))) (look_in ! 8 (sub ! 1 refl (whole !))))) (from ! (stop !)) (init ! 4 refl (D.typed (pr.state r) (pr.state_is r v gs))) $
+            assigns ! (of_opd ! (load ! (from ! (stop !)) (look ! 4 refl))) (from ! (hop ! (look ! 12 refl) (stop !))) (store ! 0 refl (D.typed (pr.state r) (pr.state_is r v gs))) $
+            assigns ! (of_opd ! (load ! (from ! (fld ! refl (stop !))) (look_in ! 8 (sub ! 0 refl (whole !))))) (from ! (stop !)) (init ! 14 refl (E.typed (pr.answer r) (pr.answer_is r v gs))) $
             use1 𝓛 (‵ (part_at S full_share (pr.state r) b o)) (of_cell 𝓛 S D full_share (pr.state r) b o (pr.state_is r v gs)) $ close_ref ! tt (mem S) (pr.state r) {b = b} {o = o} $
             -- [obs; the borrow; the token; the locals]
-            returns ! (look ! 11 refl) $ forget ! 11 refl $ forget ! 9 refl $ forget ! 7 refl $ forget ! 5 refl $ forget ! 3 refl $
-            move ! (11 ∷ 12 ∷ []) $ free1 ! $ move ! (9 ∷ 10 ∷ []) $ free1 ! $ move ! (7 ∷ 8 ∷ []) $ free1 ! $ move ! (5 ∷ 6 ∷ []) $ free1 ! $ move ! (3 ∷ 4 ∷ []) $ free1 ! $ free0 ! $
-            keep ! (0 ∷ 1 ∷ 2 ∷ []) $ by ! (answers₁_exits r e (pr.answer_is r v gs))))))))))))
+            returns ! (look ! 13 refl) $ forget ! 13 refl $ forget ! 11 refl $ forget ! 9 refl $ forget ! 7 refl $ forget ! 5 refl $ forget ! 3 refl $
+            move ! (13 ∷ 14 ∷ []) $ free1 ! $ move ! (11 ∷ 12 ∷ []) $ free1 ! $ move ! (9 ∷ 10 ∷ []) $ free1 ! $ move ! (7 ∷ 8 ∷ []) $ free1 ! $ move ! (5 ∷ 6 ∷ []) $ free1 ! $ move ! (3 ∷ 4 ∷ []) $ free1 ! $ free0 ! $
+            keep ! (0 ∷ 1 ∷ 2 ∷ []) $ by ! (answers₁_exits r e (pr.answer_is r v gs)))))))))))))
 
     answers₁_goes : AllGo 𝓛 1 (answers₁_ended S P G X₁).signature.params (answers₁_ended S P G X₁).kept answers₁_stayed
     answers₁_goes = (Goes-ref 𝓛 1 0 tt (plain (λ κs. S)), (Goes-none 𝓛 1 (λ κs. X₁) yes (λ κs. D₁.silent), tt))
@@ -403,8 +405,8 @@ answers₂_fn ref state result answer τ₁ τ₂ f = record {
   ty_params = [];
   givens = 0;
   params = 3;
-  locals = local answer value_local ∷ local ref value_local ∷ local τ₁ value_local ∷ local τ₂ value_local ∷ local result value_local ∷ local state value_local ∷ [];
-  body = seq (assign (place 5 []) (rv_opd (copy (place 1 (deref state ∷ []))))) (seq (call f (copy (place 5 []) ∷ copy (place 2 []) ∷ copy (place 3 []) ∷ []) (place 4 [])) (seq (assign (place 1 (deref state ∷ [])) (rv_opd (copy (place 4 (field 1 ∷ []))))) (seq (assign (place 0 []) (rv_opd (copy (place 4 (field 0 ∷ []))))) return)));
+  locals = local answer value_local ∷ local ref value_local ∷ local τ₁ value_local ∷ local τ₂ value_local ∷ local result value_local ∷ local state value_local ∷ local state value_local ∷ [];
+  body = seq (assign (place 5 []) (rv_opd (copy (place 1 (deref state ∷ []))))) (seq (call f (copy (place 5 []) ∷ copy (place 2 []) ∷ copy (place 3 []) ∷ []) (place 4 [])) (seq (assign (place 6 []) (rv_opd (copy (place 4 (field 1 ∷ []))))) (seq (assign (place 1 (deref state ∷ [])) (rv_opd (copy (place 6 [])))) (seq (assign (place 0 []) (rv_opd (copy (place 4 (field 0 ∷ []))))) return))));
 }
 
 module _ (S P G X₁ X₂ : RattleType) where
@@ -462,25 +464,26 @@ module _ (S P G X₁ X₂ : RattleType) {M : Type 1} {𝓤 : Ura M} (𝓛 : Logi
         answers₂_walk =
             qed 𝓛 (((‵ (flft κ q) ⊛ ‵ ftrue) ⊛ ‵ (owns (MutRef (named 0) κ S ∷ X₁ ∷ X₂ ∷ []) answers₂_passed answers₂_at)) ∷ raw (Req h x₁ x₂) ∷ []) ∵ split ! $ split ! $ move ! (2 ∷ []) $ fsplit ! $ fsplit3 ! $ drop ! $ keep ! (0 ∷ 1 ∷ 3 ∷ 5 ∷ []) $
             enter ! C Λ (answers₂_fn (ty_ref (named 0) mut (pointee S.written)) (lone S.mir) (ty_struct pr.name (tcons (lone P.mir) (tcons (lone S.mir) tnil))) (lone P.mir) (lone X₁.mir) (lone X₂.mir) f) (vptr b o ∷ D₁.mach x₁ ∷ D₂.mach x₂ ∷ []) _ $
-            alloc1 ! (λ l₀. alloc1 ! (λ l₁. alloc1 ! (λ l₂. alloc1 ! (λ l₃. alloc1 ! (λ l₄. alloc1 ! (λ l₅. alloc0 ! $ params1 ! $ pass1 ! (init ! 8 refl (tt, tt)) $ pass1 ! (init ! 6 refl (D₁.typed x₁ x₁-is)) $ pass1 ! (init ! 4 refl (D₂.typed x₂ x₂-is)) $ pass0 ! $
-            move ! (12 ∷ 13 ∷ 14 ∷ []) $ open_ref ! tt (mem S) {b = b} {o = o} $
+            alloc1 ! (λ l₀. alloc1 ! (λ l₁. alloc1 ! (λ l₂. alloc1 ! (λ l₃. alloc1 ! (λ l₄. alloc1 ! (λ l₅. alloc1 ! (λ l₆. alloc0 ! $ params1 ! $ pass1 ! (init ! 10 refl (tt, tt)) $ pass1 ! (init ! 8 refl (D₁.typed x₁ x₁-is)) $ pass1 ! (init ! 6 refl (D₂.typed x₂ x₂-is)) $ pass0 ! $
+            move ! (14 ∷ 15 ∷ 16 ∷ []) $ open_ref ! tt (mem S) {b = b} {o = o} $
             use1 𝓛 (given (Is S h (D.mach h ∷ [])) (‵ (fat full_share (lone S.mir) b o (D.mach h)))) (cell_of 𝓛 S D full_share h b o) $ learn ! (λ is.
             -- [the cell; the open borrow; obs; auth; the locals, the last first; the requires]
-            assigns ! (of_opd ! (load ! (from ! (hop ! (look ! 12 refl) (stop !))) (look ! 0 refl))) (from ! (stop !)) (init ! 4 refl (D.typed h is)) $
-            move ! (16 ∷ []) $ use1 𝓛 (raw (answers₂_value.pre answers₂_called)) (answers₂_calls is) $
-            calls_from ! fm (raw (answers₂_value.pre answers₂_called)) (D.mach h ∷ D₁.mach x₁ ∷ D₂.mach x₂ ∷ []) (answers₂_value.post answers₂_called) (known answers₂_called) (and_then ! (load ! (from ! (stop !)) (look ! 5 refl)) (and_then ! (load ! (from ! (stop !)) (look ! 11 refl)) (and_then ! (load ! (from ! (stop !)) (look ! 9 refl)) (no_more !)))) (λ v.
+            assigns ! (of_opd ! (load ! (from ! (hop ! (look ! 14 refl) (stop !))) (look ! 0 refl))) (from ! (stop !)) (init ! 6 refl (D.typed h is)) $
+            move ! (18 ∷ []) $ use1 𝓛 (raw (answers₂_value.pre answers₂_called)) (answers₂_calls is) $
+            calls_from ! fm (raw (answers₂_value.pre answers₂_called)) (D.mach h ∷ D₁.mach x₁ ∷ D₂.mach x₂ ∷ []) (answers₂_value.post answers₂_called) (known answers₂_called) (and_then ! (load ! (from ! (stop !)) (look ! 7 refl)) (and_then ! (load ! (from ! (stop !)) (look ! 13 refl)) (and_then ! (load ! (from ! (stop !)) (look ! 11 refl)) (no_more !)))) (λ v.
             use1 𝓛 (later (some (λ (r : G.Denot). (‵ ftrue ⊛ ‵ (G.own_val r (v ∷ []))) ⊛ raw (ensured 𝓛 (answers₂_value_ended S P G X₁ X₂) answers₂_value_clauses tt (h, (x₁, (x₂, tt))) tt r)))) (id⊢ 𝓤 _) $ await ! tt $ pick ! (λ r.
             split ! $ move ! (1 ∷ []) $ use1 𝓛 (raw (fact 𝓤 (Ens h x₁ x₂ (pr.state r) (pr.answer r)))) (answers₂_hears r) $ heard ! (Ens h x₁ x₂ (pr.state r) (pr.answer r)) (λ e. split ! $ drop ! $
             peeks ! G (Is G) (shows 𝓛 G) r (v ∷ []) (λ gs.
-            land ! (from ! (stop !)) (init ! 7 refl (pr.typed r v gs)) $ drop ! $
-            rewrite ! 6 (λ (w : Val). ‵ (fat full_share (ty_struct pr.name (tcons (lone P.mir) (tcons (lone S.mir) tnil))) l₄ 0 w)) (pr.laid r v gs) refl $
-            assigns ! (of_opd ! (load ! (from ! (fld ! refl (stop !))) (look_in ! 6 (sub ! 1 refl (whole !))))) (from ! (hop ! (look ! 12 refl) (stop !))) (store ! 0 refl (D.typed (pr.state r) (pr.state_is r v gs))) $
-            assigns ! (of_opd ! (load ! (from ! (fld ! refl (stop !))) (look_in ! 6 (sub ! 0 refl (whole !))))) (from ! (stop !)) (init ! 14 refl (E.typed (pr.answer r) (pr.answer_is r v gs))) $
+            land ! (from ! (stop !)) (init ! 9 refl (pr.typed r v gs)) $ drop ! $
+            rewrite ! 8 (λ (w : Val). ‵ (fat full_share (ty_struct pr.name (tcons (lone P.mir) (tcons (lone S.mir) tnil))) l₄ 0 w)) (pr.laid r v gs) refl $
+            assigns ! (of_opd ! (load ! (from ! (fld ! refl (stop !))) (look_in ! 8 (sub ! 1 refl (whole !))))) (from ! (stop !)) (init ! 4 refl (D.typed (pr.state r) (pr.state_is r v gs))) $
+            assigns ! (of_opd ! (load ! (from ! (stop !)) (look ! 4 refl))) (from ! (hop ! (look ! 14 refl) (stop !))) (store ! 0 refl (D.typed (pr.state r) (pr.state_is r v gs))) $
+            assigns ! (of_opd ! (load ! (from ! (fld ! refl (stop !))) (look_in ! 8 (sub ! 0 refl (whole !))))) (from ! (stop !)) (init ! 16 refl (E.typed (pr.answer r) (pr.answer_is r v gs))) $
             use1 𝓛 (‵ (part_at S full_share (pr.state r) b o)) (of_cell 𝓛 S D full_share (pr.state r) b o (pr.state_is r v gs)) $ close_ref ! tt (mem S) (pr.state r) {b = b} {o = o} $
             -- [obs; the borrow; the token; the locals]
-            returns ! (look ! 13 refl) $ forget ! 13 refl $ forget ! 11 refl $ forget ! 9 refl $ forget ! 7 refl $ forget ! 5 refl $ forget ! 3 refl $
-            move ! (13 ∷ 14 ∷ []) $ free1 ! $ move ! (11 ∷ 12 ∷ []) $ free1 ! $ move ! (9 ∷ 10 ∷ []) $ free1 ! $ move ! (7 ∷ 8 ∷ []) $ free1 ! $ move ! (5 ∷ 6 ∷ []) $ free1 ! $ move ! (3 ∷ 4 ∷ []) $ free1 ! $ free0 ! $
-            keep ! (0 ∷ 1 ∷ 2 ∷ []) $ by ! (answers₂_exits r e (pr.answer_is r v gs)))))))))))))
+            returns ! (look ! 15 refl) $ forget ! 15 refl $ forget ! 13 refl $ forget ! 11 refl $ forget ! 9 refl $ forget ! 7 refl $ forget ! 5 refl $ forget ! 3 refl $
+            move ! (15 ∷ 16 ∷ []) $ free1 ! $ move ! (13 ∷ 14 ∷ []) $ free1 ! $ move ! (11 ∷ 12 ∷ []) $ free1 ! $ move ! (9 ∷ 10 ∷ []) $ free1 ! $ move ! (7 ∷ 8 ∷ []) $ free1 ! $ move ! (5 ∷ 6 ∷ []) $ free1 ! $ move ! (3 ∷ 4 ∷ []) $ free1 ! $ free0 ! $
+            keep ! (0 ∷ 1 ∷ 2 ∷ []) $ by ! (answers₂_exits r e (pr.answer_is r v gs))))))))))))))
 
     answers₂_goes : AllGo 𝓛 1 (answers₂_ended S P G X₁ X₂).signature.params (answers₂_ended S P G X₁ X₂).kept answers₂_stayed
     answers₂_goes = (Goes-ref 𝓛 1 0 tt (plain (λ κs. S)), (Goes-none 𝓛 1 (λ κs. X₁) yes (λ κs. D₁.silent), (Goes-none 𝓛 1 (λ κs. X₂) yes (λ κs. D₂.silent), tt)))

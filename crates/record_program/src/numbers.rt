@@ -39,6 +39,7 @@ const MOST_32: u64 = 0xFFFF_FFFF;
 const MOST_ROOM: u64 = 64;
 
 // Does each number fit its type?
+#[tactic(auto, unfolding(crate::specs::Numbers::fit))]
 pub fn in_range(a: [u64; 10]) -> bool
     ensures { result ≡ fit a }
 {

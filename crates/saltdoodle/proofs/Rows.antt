@@ -6,6 +6,7 @@ use seplogic.Ra.Ura.{Ura}
 use mir.Syntax.{w32}
 use types.Logic.{Logic}
 use denote.Laws.{Copy}
+use denote.Opens.{Opens}
 use denote.Builtin.{u32, bool}
 use denote.Steps.{only}
 use denote.Struct.Laws as LL
@@ -77,6 +78,10 @@ module _ {M : Type 1} {𝓤 : Ura M} (𝓛 : Logic 𝓤) where
 
   pub sender_copy : Copy 𝓛 T.the_row
   sender_copy = LL.copy T.the_type T'.the_copy 𝓛
+
+  -- a `&` to it is read through
+  pub sender_opens : Opens 𝓛 T.the_row
+  sender_opens = (LL.copied T.the_type T'.the_copy 𝓛).opens
 
   abbrev pub refusal : Data 𝓛 u32
   refusal = uint_data 𝓛 w32

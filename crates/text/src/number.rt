@@ -14,6 +14,7 @@ pub enum Number {
 }
 
 // The whole of w as a numeral.
+#[tactic(auto, using(crate::proofs::Numbers::number_empty))]
 pub fn number_of(w: &[u8]) -> Number
     ensures { result ≡ numeral_answer w.now }
 {

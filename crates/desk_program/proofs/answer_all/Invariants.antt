@@ -1,4 +1,3 @@
-use borrow.Author.Rules.{rules}
 use Rattle.sender.specs.SenderCalls.{ValidSender}
 use Rattle.desk_program.proofs.answer_all.Given as goal
 

@@ -1,7 +1,6 @@
 -- `packet_record::answer_record` meets its contract, by the kinds of answer.
 use mathlib.Core.Path.{ap}
 use mathlib.Core.Option.{some}
-use borrow.Author.Rules.{rules}
 use Rattle.packet_record.proofs.answer_record.Goals as goal
 
 pub returns-in-Packet : goal.returns-in-Packet

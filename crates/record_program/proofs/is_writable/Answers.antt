@@ -1,7 +1,6 @@
 -- `record_program::is_writable` meets its contract: the part of the buffer is as long as was asked for.
 use mathlib.Core.Path.{sym, ◌∙◌, ap}
 use native.Mathlib.Omega.{arith}
-use borrow.Author.Rules.{rules}
 use lib.Seq.{length-take-le}
 use Rattle.record_program.proofs.NumberLaws.{is_done, room_told}
 use Rattle.record_program.proofs.is_writable.Goals as goal

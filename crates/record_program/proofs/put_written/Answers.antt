@@ -1,7 +1,6 @@
 -- `record_program::put_written` is safe and ends: the part of the buffer is as long as was asked for.
 use mathlib.Core.Path.{sym}
 use native.Mathlib.Omega.{arith}
-use borrow.Author.Rules.{rules}
 use lib.Seq.{length-take-le}
 use Rattle.record_program.proofs.put_written.Goals as goal
 

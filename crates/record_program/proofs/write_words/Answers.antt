@@ -1,7 +1,6 @@
 -- `record_program::write_words` is safe and ends: the numbers fit where they are taken.
 use mathlib.Core.Path.{sym, ◌∙◌}
 use native.Mathlib.Omega.{arith}
-use borrow.Author.Rules.{rules}
 use Rattle.record_program.proofs.NumberLaws.{fitting}
 use Rattle.record_program.proofs.write_words.Goals as goal
 

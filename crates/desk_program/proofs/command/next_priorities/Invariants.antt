@@ -1,5 +1,4 @@
 use Prim.Native.Nat.{◌≤◌}
-use borrow.Author.Rules.{rules}
 use Rattle.desk_program.proofs.command.next_priorities.Given as goal
 
 abbrev pub invariant-loop-left : goal.invariant-loop-left

@@ -1,6 +1,5 @@
 -- `desk_program::play::block_length` meets its contract.
 use mathlib.Core.Path.{◌∙◌, ap}
-use borrow.Author.Rules.{rules}
 use Rattle.sizes.specs.Partition.{block_length, sizes_given}
 use Rattle.sizes.specs.declared.partition.Partition.{Partition}
 use Rattle.desk_program.specs.Replies.{length_shown}

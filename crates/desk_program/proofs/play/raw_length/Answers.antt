@@ -1,6 +1,5 @@
 -- `desk_program::play::raw_length` meets its contract.
 use mathlib.Core.Path.{◌∙◌, ap}
-use borrow.Author.Rules.{rules}
 use Rattle.desk_program.specs.Replies.{length_shown}
 use Rattle.desk_program.proofs.play.raw_length.Goals as goal
 

@@ -1,5 +1,4 @@
 -- `desk_program::reply::add_reply` meets its contract.
-use borrow.Author.Rules.{rules}
 use Rattle.desk_program.proofs.reply.add_reply.Goals as goal
 
 pub returns-in-Toi : goal.returns-in-Toi

@@ -1,5 +1,4 @@
 -- `desk_program::reply::fdt_reply` meets its contract.
-use borrow.Author.Rules.{rules}
 use Rattle.desk_program.proofs.reply.fdt_reply.Goals as goal
 
 pub returns-in-Packet : goal.returns-in-Packet

@@ -1,5 +1,4 @@
 -- `desk_program::reply::given_reply` meets its contract.
-use borrow.Author.Rules.{rules}
 use Rattle.desk_program.proofs.reply.given_reply.Goals as goal
 
 pub returns-in-Number : goal.returns-in-Number

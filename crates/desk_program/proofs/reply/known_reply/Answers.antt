@@ -1,5 +1,4 @@
 -- `desk_program::reply::known_reply` meets its contract.
-use borrow.Author.Rules.{rules}
 use Rattle.desk_program.proofs.reply.known_reply.Goals as goal
 
 pub returns-in-Done : goal.returns-in-Done

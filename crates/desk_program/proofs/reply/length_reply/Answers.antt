@@ -1,5 +1,4 @@
 -- `desk_program::reply::length_reply` meets its contract.
-use borrow.Author.Rules.{rules}
 use Rattle.desk_program.proofs.reply.length_reply.Goals as goal
 
 pub returns-in-Bytes : goal.returns-in-Bytes

@@ -1,5 +1,4 @@
 -- `desk_program::reply::publication_reply` meets its contract.
-use borrow.Author.Rules.{rules}
 use Rattle.desk_program.proofs.reply.publication_reply.Goals as goal
 
 pub returns-in-Done : goal.returns-in-Done

@@ -1,5 +1,4 @@
 -- `desk_program::reply::reading_reply` meets its contract.
-use borrow.Author.Rules.{rules}
 use Rattle.desk_program.proofs.reply.reading_reply.Goals as goal
 
 pub returns-in-Fields : goal.returns-in-Fields

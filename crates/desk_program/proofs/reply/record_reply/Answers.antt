@@ -1,6 +1,5 @@
 -- `desk_program::reply::record_reply` meets its contract.
 use mathlib.Core.Path.{sym, ◌∙◌}
-use borrow.Author.Rules.{rules}
 use Rattle.desk_program.proofs.reply.record_reply.Goals as goal
 
 pub returns-then-is_writable : goal.returns-then-is_writable

@@ -1,5 +1,4 @@
 -- `desk_program::reply::run_reply` meets its contract.
-use borrow.Author.Rules.{rules}
 use Rattle.desk_program.proofs.reply.run_reply.Goals as goal
 
 pub returns-in-Packet : goal.returns-in-Packet

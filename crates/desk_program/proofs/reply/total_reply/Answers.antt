@@ -1,5 +1,4 @@
 -- `desk_program::reply::total_reply` meets its contract.
-use borrow.Author.Rules.{rules}
 use Rattle.desk_program.proofs.reply.total_reply.Goals as goal
 
 pub returns-in-Total : goal.returns-in-Total

@@ -1,9 +1,6 @@
 -- `desk_program::store::checksum` meets its contract. The invariant: the checksum so far, with the bytes that are left, is the checksum of all.
-use mathlib.Core.Path.{◌≡◌, refl, sym, ◌∙◌}
-use Prim.Native.Nat.{◌<◌, ◌≤◌, ◌-◌}
+use mathlib.Core.Path.{refl, sym, ◌∙◌}
 use borrow.Author.Rules.{rules}
-use lib.ListN.{length, drop}
-use Rattle.desk_program.specs.Stores.{sum_of}
 use Rattle.desk_program.proofs.StoreLaws.{sum_step, sum_end}
 use Rattle.desk_program.proofs.store.checksum.Goals as goal
 

@@ -1,9 +1,7 @@
-use mathlib.Core.Path.{◌≡◌, refl, sym, ◌∙◌}
+use mathlib.Core.Path.{◌≡◌}
 use Prim.Native.Nat.{◌<◌, ◌≤◌, ◌-◌}
-use borrow.Author.Rules.{rules}
 use lib.ListN.{length, drop}
 use Rattle.desk_program.specs.Stores.{sum_of}
-use Rattle.desk_program.proofs.StoreLaws.{sum_step, sum_end}
 use Rattle.desk_program.proofs.store.checksum.Given as goal
 
 abbrev pub invariant-loop-i : goal.invariant-loop-i

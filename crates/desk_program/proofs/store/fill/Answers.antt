@@ -1,9 +1,9 @@
 -- `desk_program::store::fill` meets its contract. The invariant: the bytes so far are the store's.
-use mathlib.Core.Path.{◌≡◌, ◌∙◌}
-use Prim.Native.Nat.{ℕ, ◌<◌, ◌≤◌, ◌-◌}
+use mathlib.Core.Path.{◌∙◌}
+use Prim.Native.Nat.{◌<◌}
 use native.Mathlib.Omega.{arith}
 use borrow.Author.Rules.{rules}
-use lib.ListN.{length, get_or, length-set}
+use lib.ListN.{length, length-set}
 use Rattle.desk_program.specs.Stores.{byte_at, Filled}
 use Rattle.desk_program.proofs.StoreLaws.{one_more}
 use Rattle.desk_program.proofs.store.fill.Goals as goal

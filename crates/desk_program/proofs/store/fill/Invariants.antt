@@ -1,10 +1,7 @@
-use mathlib.Core.Path.{◌≡◌, ◌∙◌}
+use mathlib.Core.Path.{◌≡◌}
 use Prim.Native.Nat.{ℕ, ◌<◌, ◌≤◌, ◌-◌}
-use native.Mathlib.Omega.{arith}
-use borrow.Author.Rules.{rules}
-use lib.ListN.{length, get_or, length-set}
-use Rattle.desk_program.specs.Stores.{byte_at, Filled}
-use Rattle.desk_program.proofs.StoreLaws.{one_more}
+use lib.ListN.{length, get_or}
+use Rattle.desk_program.specs.Stores.{byte_at}
 use Rattle.desk_program.proofs.store.fill.Given as goal
 
 abbrev pub invariant-loop-i : goal.invariant-loop-i

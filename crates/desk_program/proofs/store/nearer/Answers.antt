@@ -1,5 +1,4 @@
 -- `desk_program::store::nearer` meets its contract.
-use borrow.Author.Rules.{rules}
 use Rattle.desk_program.specs.Stores.{nearer_of}
 use Rattle.desk_program.proofs.store.nearer.Goals as goal
 

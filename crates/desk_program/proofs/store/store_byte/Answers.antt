@@ -1,5 +1,4 @@
 -- `desk_program::store::store_byte` meets its contract.
-use borrow.Author.Rules.{rules}
 use Rattle.desk_program.specs.Stores.{byte_at}
 use Rattle.desk_program.proofs.store.store_byte.Goals as goal
 

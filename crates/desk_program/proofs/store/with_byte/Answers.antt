@@ -1,7 +1,6 @@
 -- `desk_program::store::with_byte` meets its contract.
 use mathlib.Core.Path.{refl}
 use native.Mathlib.Omega.{arith}
-use borrow.Author.Rules.{rules}
 use Rattle.desk_program.specs.Stores.{sum_with}
 use Rattle.desk_program.proofs.store.with_byte.Goals as goal
 

@@ -5,7 +5,6 @@ use Rattle.sender.specs.declared.blockencoder.BlockEncoder.{BlockEncoder}
 use Rattle.drain_program.specs.declared.drain.Begun.{Begun}
 use Rattle.drain_program.proofs.DrainLaws.{begun_valid, nothing_admitted}
 use mathlib.Core.Path.{sym, ◌∙◌, ap, subst}
-use borrow.Author.Rules.{rules}
 use Rattle.drain_program.proofs.drain.begin.Goals as goal
 
 pub returns-then-is_refused : goal.returns-then-is_refused

@@ -4,7 +4,6 @@ use Rattle.drain_program.proofs.DrainLaws.{in_large_ones, in_small_ones, first_l
 use mathlib.Core.Path.{sym, ap}
 use Prim.Native.Nat.{◌*◌}
 use native.Mathlib.Omega.{arith}
-use borrow.Author.Rules.{rules}
 use Rattle.drain_program.proofs.drain.block_start.Goals as goal
 
 pub overflow_mul-result : goal.overflow_mul-result

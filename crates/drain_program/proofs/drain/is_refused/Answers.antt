@@ -1,7 +1,6 @@
 -- `drain_program::drain::is_refused` meets its contract.
 use Rattle.drain_program.proofs.DrainLaws.{no_window, wide_window, too_long, by_blocks}
 use mathlib.Core.Path.{sym, ◌∙◌}
-use borrow.Author.Rules.{rules}
 use Rattle.drain_program.proofs.drain.is_refused.Goals as goal
 
 pub returns-then-w-eq0 : goal.returns-then-w-eq0

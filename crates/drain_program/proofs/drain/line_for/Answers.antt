@@ -4,7 +4,6 @@ use Rattle.drain_program.proofs.DrainLaws.{start_of}
 use mathlib.Core.Path.{◌∙◌, ap}
 use Prim.Native.Nat.{◌+◌, ◌*◌}
 use native.Mathlib.Omega.{arith}
-use borrow.Author.Rules.{rules}
 use Rattle.drain_program.proofs.drain.line_for.Goals as goal
 
 pub block_start-start-requires : goal.block_start-start-requires

@@ -6,7 +6,6 @@ use Rattle.drain_program.specs.DrainCalls.{packet_line}
 use Rattle.drain_program.specs.declared.drain.Line.TheVariants.{Over}
 use Rattle.sender.proofs.EncoderPromises.{read_shows}
 use mathlib.Core.Path.{sym, ◌∙◌, ap}
-use borrow.Author.Rules.{rules}
 use Rattle.drain_program.proofs.drain.turn.Goals as goal
 
 pub returns-in_default : goal.returns-in_default

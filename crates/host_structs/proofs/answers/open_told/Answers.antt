@@ -1,4 +1,3 @@
-use borrow.Author.Rules.{rules}
 use Rattle.host_structs.specs.Answers.{open_told}
 use Rattle.host_structs.proofs.answers.open_told.Goals as goal
 

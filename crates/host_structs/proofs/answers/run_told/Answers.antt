@@ -1,5 +1,4 @@
 use mathlib.Core.Path.{sym, ap, ◌∙◌}
-use borrow.Author.Rules.{rules}
 use Rattle.host_structs.specs.Answers.{not_sent, run_told}
 use Rattle.host_structs.proofs.answers.run_told.Goals as goal
 

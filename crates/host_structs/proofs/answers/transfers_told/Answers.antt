@@ -1,6 +1,5 @@
 use mathlib.Core.Path.{sym, ap}
 use Rattle.host_structs.specs.Answers.{transfers_told}
-use borrow.Author.Rules.{rules}
 use Rattle.host_structs.proofs.answers.transfers_told.Goals as goal
 
 pub returns-in-Total : goal.returns-in-Total

@@ -1,4 +1,3 @@
-use borrow.Author.Rules.{rules}
 use Rattle.host_structs.proofs.inputs.object_in.Goals as goal
 
 pub returns : goal.returns

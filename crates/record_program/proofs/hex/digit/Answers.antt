@@ -1,6 +1,5 @@
 -- `record_program::hex::digit` meets its contract.
 use borrow.Author.Tests.{lt-ltb, le-ltb}
-use borrow.Author.Rules.{rules}
 use Rattle.record_program.specs.Hex.{digit_of}
 use Rattle.record_program.proofs.hex.digit.Goals as goal
 

@@ -1,7 +1,6 @@
 -- `record_program::hex::pair` meets its contract: a digit stands for less than 16.
 use mathlib.Core.Path.{sym, ◌∙◌}
 use native.Mathlib.Omega.{arith}
-use borrow.Author.Rules.{rules}
 use Rattle.record_program.proofs.HexLaws.{small}
 use Rattle.record_program.specs.Hex.{pair_value}
 use Rattle.record_program.proofs.hex.pair.Goals as goal

@@ -1,5 +1,4 @@
 -- `record_program::hex::put_byte` meets its contract.
-use borrow.Author.Rules.{rules}
 use Rattle.record_program.specs.Hex.{byte_text}
 use Rattle.record_program.proofs.hex.put_byte.Goals as goal
 

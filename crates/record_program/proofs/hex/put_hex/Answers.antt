@@ -1,11 +1,8 @@
 -- `record_program::hex::put_hex` meets its contract. The invariant: where there is room, the first i bytes stand there.
-use mathlib.Core.Path.{◌≡◌, refl}
-use Prim.Native.Nat.{◌+◌, ◌-◌, ◌*◌, ◌≤◌}
+use mathlib.Core.Path.{refl}
 use native.Mathlib.Omega.{arith}
 use borrow.Author.Rules.{rules}
-use lib.ListN.{length, take}
 use lib.Seq.{take_all}
-use Rattle.text.specs.Put.{Appended}
 use Rattle.text.proofs.Appends.{nothing_more}
 use Rattle.record_program.specs.Hex.{hex_of}
 use Rattle.record_program.proofs.HexLaws.{hex_more}

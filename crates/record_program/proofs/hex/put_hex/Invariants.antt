@@ -1,13 +1,8 @@
-use mathlib.Core.Path.{◌≡◌, refl}
+use mathlib.Core.Path.{◌≡◌}
 use Prim.Native.Nat.{◌+◌, ◌-◌, ◌*◌, ◌≤◌}
-use native.Mathlib.Omega.{arith}
-use borrow.Author.Rules.{rules}
 use lib.ListN.{length, take}
-use lib.Seq.{take_all}
 use Rattle.text.specs.Put.{Appended}
-use Rattle.text.proofs.Appends.{nothing_more}
 use Rattle.record_program.specs.Hex.{hex_of}
-use Rattle.record_program.proofs.HexLaws.{hex_more}
 use Rattle.record_program.proofs.hex.put_hex.Given as goal
 
 abbrev pub invariant-loop-i : goal.invariant-loop-i

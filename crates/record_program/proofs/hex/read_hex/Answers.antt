@@ -1,12 +1,10 @@
 -- `record_program::hex::read_hex` meets its contract. The invariant: the word spells the bytes read so far, and behind them what its
 -- rest spells.
 use mathlib.Core.Path.{◌≡◌, refl, sym, ◌∙◌}
-use Prim.Native.Nat.{◌-◌, ◌*◌, ◌≤◌, ◌/◌}
+use Prim.Native.Nat.{◌/◌}
 use native.Mathlib.Omega.{arith}
-use borrow.Author.Rules.{rules}
-use lib.ListN.{length, take, drop, length-set}
-use Rattle.record_program.specs.Hex.{spelled}
-use Rattle.record_program.proofs.HexLaws.{behind, nothing_read, read_more, read_stop, read_end, odd}
+use lib.ListN.{length, take, length-set}
+use Rattle.record_program.proofs.HexLaws.{nothing_read, read_more, read_stop, read_end, odd}
 use Rattle.record_program.proofs.hex.read_hex.Goals as goal
 
 pub returns-then-out-n : goal.returns-then-out-n

@@ -1,7 +1,6 @@
 -- `record_program::hex::value` meets its contract, range by range.
 use mathlib.Core.Path.{sym}
 use native.Mathlib.Omega.{arith}
-use borrow.Author.Rules.{rules}
 use Rattle.record_program.proofs.HexLaws.{below, decimal, middle, upper, higher, lower, above}
 use Rattle.record_program.proofs.hex.value.Goals as goal
 

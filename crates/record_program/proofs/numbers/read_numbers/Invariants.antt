@@ -1,5 +1,4 @@
 use Prim.Native.Nat.{◌-◌, ◌≤◌}
-use borrow.Author.Rules.{rules}
 use Rattle.record_program.proofs.numbers.read_numbers.Given as goal
 
 abbrev pub invariant-loop-count : goal.invariant-loop-count

@@ -1,7 +1,6 @@
 -- `record_program::numbers::record_of` meets its contract.
 use mathlib.Core.Path.{refl}
 use native.Mathlib.Omega.{arith}
-use borrow.Author.Rules.{rules}
 use Rattle.record_program.proofs.NumberLaws.{fitting}
 use Rattle.wire.specs.Record.{with_values}
 use Rattle.record_program.proofs.numbers.record_of.Goals as goal

@@ -7,11 +7,8 @@ use lib.ListN.{take}
 use lib.Seq.{take_all}
 use mathlib.Core.List.{List}
 use Rattle.text.specs.Numbers.{value_from, in_width}
-use Rattle.text.proofs.Numbers.{value_more, digits_more, digits_stop, digits_end, number_empty, number_none, number_some}
+use Rattle.text.proofs.Numbers.{value_more, digits_more, digits_stop, digits_end, number_none, number_some}
 use Rattle.text.proofs.number.number_of.Goals as goal
-
-pub returns-then-w-eq0 : goal.returns-then-w-eq0
-returns-then-w-eq0 c = sym (number_empty _ c.if-w-eq0.true)
 
 pub loop-i-init : goal.loop-i-init
 unfolding value_from in_width
