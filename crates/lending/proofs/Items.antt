@@ -1,7 +1,7 @@
 -- One element of an array that is a field of a struct behind a reference: its cell comes out, and goes back with the same value or another.
--- For any struct and any element type of plain data; a walk by hand cites it at each such read and store.
+-- For any struct and any element type of plain data; a walk by hand would cite it at each such read and store.
 --     part, item     the element as a part, or its cell with its value written out; and the way back with another in its place
---     cut-then       a part of a part.        cut_record     a field that is a struct, at the struct's own type.        number     a field of 64 bits
+--     cut_then       a part of a part.        cut_record     a field that is a struct, at the struct's own type.        number     a field of 64 bits
 -- Assumes `Logic`.
 use mathlib.Core.Path.{◌≡◌, refl, sym, ◌∙◌, ap, subst}
 use Prim.Native.Nat.{ℕ, ◌+◌, ◌<◌}

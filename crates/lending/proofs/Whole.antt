@@ -1,8 +1,8 @@
 -- A call on a lent state, walked once: what stands behind the reference is copied out and passed by value, the state that comes back is stored over it, and the answer is copied.
 -- For any types of plain data and any contract: the lent call promises of the state at entry and at exit what the by-value call promises of the state that it takes and the one that it gives.
---     Data, struct-data, enum-data, uint-data, bool-data     what is asked of a type, and what has it
+--     Data, struct_data, enum_data, uint_data, bool_data     what is asked of a type, and what has it
 --     Pair               what is asked of the by-value call's result: a struct of the answer and the state
---     answersᵢ-fn        the function's MIR, with i arguments beside the state.        doneᵢ-fn     with no answer
+--     answersᵢ_fn        the function's MIR, with i arguments beside the state.        doneᵢ_fn     with no answer
 --     answersᵢ, doneᵢ    it meets its contract, where the by-value call meets its own
 --     reads₁             the same of a call that only reads the state, lent as `&`
 -- Assumes `Logic`.
