@@ -1,4 +1,4 @@
-/* A sender for a host in C: the functions of libsaltdoodle.a (`rt lib` in crates/saltdoodle; x86-64 Linux).
+/* A sender for a host in C: the functions of libsaltdoodle.a (`bash host/build`; x86-64 Linux).
 
    The host owns an sd_sender and lends it to each call. It keeps to this:
    - sd_set_up fills it, and comes first: the other calls need a sender that an accepted set-up filled. Before that, zeros must stand there.

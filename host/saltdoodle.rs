@@ -1,10 +1,10 @@
-//! A sender for a host in Rust: the functions of libsaltdoodle.a (`rt lib` in crates/saltdoodle; x86-64 Linux), and the structs that they take and give.
+//! A sender for a host in Rust: the functions of libsaltdoodle.a (`bash host/build`; x86-64 Linux), and the structs that they take and give.
 //!
 //! saltdoodle.h says what a host keeps to, what each number means, and why a call is refused. What the compiler does not ensure here:
 //! - A sender comes from `SdSender::zeros()`, and `sd_set_up` comes first: the other calls need a sender that an accepted set-up filled.
 //! - A call has 128 KiB of stack.
 //!
-//! As a module: `#[path = "../host/saltdoodle.rs"] mod saltdoodle;`, and `rustc -L native=crates/saltdoodle/out -l static=saltdoodle`.
+//! As a module: `#[path = "../host/saltdoodle.rs"] mod saltdoodle;`, and `rustc -L native=target/staticlib -l static=saltdoodle`.
 #![allow(dead_code)]
 
 use std::mem::{align_of, offset_of, size_of};

@@ -5,9 +5,10 @@
 
 mod drain;
 
-ghost use Rattle.std.specs.Prelude.{◌+◌, ◌≤◌, length};
+ghost use Rattle.std.specs.Prelude.{◌≡◌, not, ◌+◌, ◌≤◌, length};
 ghost use Rattle.sender.specs.EncoderCalls.{ValidEncoder};
 ghost use Rattle.text.specs.Put.{Appended};
+ghost use Rattle.drain_program.specs.DrainCalls.{drain_refuses};
 ghost use Rattle.drain_program.specs.Lines.{field, line_text, most_field, most_line};
 
 use crate::drain::Line;
@@ -26,7 +27,9 @@ pub fn answer<W: Write>(to: &mut W, line: &[u8]) {
 
 // Writes the lines of a transfer with these numbers and answers true; or writes `refused`, where they are not
 // admitted, and answers false.
-pub fn write_lines<W: Write>(to: &mut W, l: u64, e: u64, b: u64, w: u64) -> bool {
+pub fn write_lines<W: Write>(to: &mut W, l: u64, e: u64, b: u64, w: u64) -> bool
+    ensures { result ≡ not (drain_refuses l e b w) }
+{
     let begun = drain::begin(l, e, b, w);
     if !begun.ok {
         refuse(to);

@@ -16,8 +16,7 @@ use sizes::limits::MOST_SESSIONS;
 const SESSIONS: u64 = MOST_SESSIONS as u64;
 
 // Fills the sender, where zeros may stand before; a refused set-up leaves what stood there.
-#[unsafe(no_mangle)]
-pub extern "C" fn sd_set_up(s: &mut Sender, z: PlainSetup) -> u32
+pub fn sd_set_up(s: &mut Sender, z: PlainSetup) -> u32
     ensures { OpensLent z s.old s.new result }
 {
     let r = opened(*s, z);
@@ -25,8 +24,7 @@ pub extern "C" fn sd_set_up(s: &mut Sender, z: PlainSetup) -> u32
     r.answer
 }
 
-#[unsafe(no_mangle)]
-pub extern "C" fn sd_reserve(s: &mut Sender) -> Numbered
+pub fn sd_reserve(s: &mut Sender) -> Numbered
     requires { ValidSender s.old }
     ensures { ReservesLent s.old s.new result }
 {
@@ -35,8 +33,7 @@ pub extern "C" fn sd_reserve(s: &mut Sender) -> Numbered
     r.answer
 }
 
-#[unsafe(no_mangle)]
-pub extern "C" fn sd_release(s: &mut Sender, toi: u64) -> u32
+pub fn sd_release(s: &mut Sender, toi: u64) -> u32
     requires { ValidSender s.old }
     ensures { ReleasesLent toi s.old s.new result }
 {
@@ -45,8 +42,7 @@ pub extern "C" fn sd_release(s: &mut Sender, toi: u64) -> u32
     r.answer
 }
 
-#[unsafe(no_mangle)]
-pub extern "C" fn sd_add(s: &mut Sender, o: PlainObject) -> Numbered
+pub fn sd_add(s: &mut Sender, o: PlainObject) -> Numbered
     requires { ValidSender s.old }
     ensures { AddsLent o s.old s.new result }
 {
@@ -55,8 +51,7 @@ pub extern "C" fn sd_add(s: &mut Sender, o: PlainObject) -> Numbered
     r.answer
 }
 
-#[unsafe(no_mangle)]
-pub extern "C" fn sd_remove(s: &mut Sender, toi: u64) -> bool
+pub fn sd_remove(s: &mut Sender, toi: u64) -> bool
     requires { ValidSender s.old }
     ensures { Removes toi s.old (record { yes = result; sender = s.new }) }
 {
@@ -65,8 +60,7 @@ pub extern "C" fn sd_remove(s: &mut Sender, toi: u64) -> bool
     r.yes
 }
 
-#[unsafe(no_mangle)]
-pub extern "C" fn sd_trigger(s: &mut Sender, toi: u64, start: Time) -> bool
+pub fn sd_trigger(s: &mut Sender, toi: u64, start: Time) -> bool
     requires { ValidSender s.old }
     ensures { Prompts toi start s.old (record { yes = result; sender = s.new }) }
 {
@@ -75,8 +69,7 @@ pub extern "C" fn sd_trigger(s: &mut Sender, toi: u64, start: Time) -> bool
     r.yes
 }
 
-#[unsafe(no_mangle)]
-pub extern "C" fn sd_complete(s: &mut Sender)
+pub fn sd_complete(s: &mut Sender)
     requires { ValidSender s.old }
     ensures { Completes s.old s.new }
 {
@@ -84,8 +77,7 @@ pub extern "C" fn sd_complete(s: &mut Sender)
     *s = r;
 }
 
-#[unsafe(no_mangle)]
-pub extern "C" fn sd_publish(s: &mut Sender, at: u64, part: Part) -> u32
+pub fn sd_publish(s: &mut Sender, at: u64, part: Part) -> u32
     requires { ValidSender s.old }
     ensures { PublishesLent at part s.old s.new result }
 {
@@ -95,8 +87,7 @@ pub extern "C" fn sd_publish(s: &mut Sender, at: u64, part: Part) -> u32
 }
 
 // The FDT session; a draft of length 0 is none.
-#[unsafe(no_mangle)]
-pub extern "C" fn sd_run_fdt(s: &mut Sender, at: u64, draft: Part) -> Sent
+pub fn sd_run_fdt(s: &mut Sender, at: u64, draft: Part) -> Sent
     requires { ValidSender s.old }
     ensures { RunsFdtLent at draft s.old s.new result }
 {
@@ -106,8 +97,7 @@ pub extern "C" fn sd_run_fdt(s: &mut Sender, at: u64, draft: Part) -> Sent
 }
 
 // File session i. In the middle of a transfer three numbers are stored; where nothing but the session changes, only it is.
-#[unsafe(no_mangle)]
-pub extern "C" fn sd_run(s: &mut Sender, i: u64, at: u64) -> Sent
+pub fn sd_run(s: &mut Sender, i: u64, at: u64) -> Sent
     requires { ValidSender s.old }
     ensures { RunsFileLent i at s.old s.new result }
 {
@@ -137,8 +127,7 @@ pub extern "C" fn sd_run(s: &mut Sender, i: u64, at: u64) -> Sent
 }
 
 // Is the object listed?
-#[unsafe(no_mangle)]
-pub extern "C" fn sd_listed(s: &Sender, toi: u64) -> bool
+pub fn sd_listed(s: &Sender, toi: u64) -> bool
     requires { ValidSender s.now }
     ensures { Lists toi s.now result }
 {
@@ -146,8 +135,7 @@ pub extern "C" fn sd_listed(s: &Sender, toi: u64) -> bool
 }
 
 // Its total transfers, where it is listed.
-#[unsafe(no_mangle)]
-pub extern "C" fn sd_transfers(s: &Sender, toi: u64) -> Counted
+pub fn sd_transfers(s: &Sender, toi: u64) -> Counted
     requires { ValidSender s.now }
     ensures { TotalsTold toi s.now result }
 {

@@ -122,8 +122,7 @@ fn place_in(of_fdt: bool, store: u64, c: Part) -> PayloadPlace
 }
 
 // Where the packet's payload stands, in stores of these lengths: the empty part of the object store where the store does not have it or there is no packet.
-#[unsafe(no_mangle)]
-pub extern "C" fn sd_payload(object_store: u64, fdt_store: u64, s: Sent) -> PayloadPlace
+pub fn sd_payload(object_store: u64, fdt_store: u64, s: Sent) -> PayloadPlace
     ensures { PayloadTold object_store fdt_store s result }
 {
     if s.sent {
@@ -139,8 +138,7 @@ pub extern "C" fn sd_payload(object_store: u64, fdt_store: u64, s: Sent) -> Payl
 }
 
 // Writes the packet's record. Refused, with nothing written, where there is no packet, or one that has no record.
-#[unsafe(no_mangle)]
-pub extern "C" fn sd_record_write(out: &mut [u8; 28], s: Sent) -> u32
+pub fn sd_record_write(out: &mut [u8; 28], s: Sent) -> u32
     ensures { RecordTold s out.old result out.new }
 {
     match answer_record(answer_in(s)) {
@@ -150,8 +148,7 @@ pub extern "C" fn sd_record_write(out: &mut [u8; 28], s: Sent) -> u32
 }
 
 // Reads a record.
-#[unsafe(no_mangle)]
-pub extern "C" fn sd_record_read(bytes: &[u8; 28]) -> PlainRecord
+pub fn sd_record_read(bytes: &[u8; 28]) -> PlainRecord
     ensures { FieldsTold bytes.now result }
 {
     reading_told(read(bytes))
