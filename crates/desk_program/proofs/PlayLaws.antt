@@ -4,18 +4,18 @@ use Rattle.sizes.specs.declared.numbers.Sbn.{Sbn}
 use Rattle.wire.specs.declared.record.Record.{Record}
 use Rattle.wire.specs.declared.record.Reading.{Reading}
 use mathlib.Core.Path.{◌≡◌, refl, subst, sym, ◌∙◌, ap}
-use mathlib.Core.Bool.{Bool, true, false, not, true≢false}
-use mathlib.Core.List.{List, [], ◌∷◌}
+use mathlib.Core.Bool.{Bool, true, false, true≢false}
 use mathlib.Core.Option.{none, some}
 use Prim.Native.Nat.{ℕ}
 use native.Mathlib.Omega.{arith}
-use lib.Dec.{T}
-use mir.Val.{has_key}
-use types.Run.{OneOf, miss}
-use denote.Enum.Declared.{tag_of}
 use Rattle.definition.specs.Desk.{Call}
+use Rattle.lifecycle.specs.declared.announce.Draft.{Draft}
+use Rattle.lifecycle.specs.declared.fdt.Named.{Named}
+use Rattle.lifecycle.specs.declared.filedesc.Time.{Time}
+use Rattle.lifecycle.specs.declared.parts.Part.{Part}
 use Rattle.sender.specs.SenderCalls.{ValidSender}
 use Rattle.sender.specs.declared.sender.Sender.{Sender}
+use Rattle.sender.specs.declared.sender.Object.{Object}
 use Rattle.sender.specs.declared.setup.Setup.{Setup}
 use Rattle.desk_program.specs.Commands.{setup_named}
 use Rattle.desk_program.specs.Plays.{call_of, alone, reply_with, PlaysCall, Calls, SetsUp, Shut, Answers, SetUpAnswers, Stays}
@@ -25,10 +25,9 @@ use Rattle.desk_program.specs.declared.command.Opening.{Opening}
 use Rattle.desk_program.specs.declared.play.Desk.{Desk}
 use Rattle.desk_program.specs.declared.reply.Reply.{Reply}
 use Rattle.desk_program.specs.declared.reply.Reply.TheVariants as ReplyV
-use Rattle.desk_program.specs.contracts.command.Command.{the_type}
 
 -- two different commands are not one
-clash : {A : Type 0} → ◌≡◌ {A = ℕ} 0 1 → A
+pub clash : {A : Type 0} → ◌≡◌ {A = ℕ} 0 1 → A
 clash e = absurd (omega arith)
 
 -- a call that was played as one, and a command that asks for none
@@ -44,33 +43,34 @@ pub calls_none : {c : Command} {s : Sender} {r : Desk} (o : Bool) (y : Reply) �
     (c ≡ CommandV.AddNowhere → r ≡ reply_with true s (ReplyV.Refused Because.NoPriority)) → Calls c s r
 calls_none {c} {s} {r} o y e v h w = record { valid = rw h v; played = λ l f. clash (cc); nowhere = w }
 
--- the places of the commands that ask for none
-abbrev pub others : List ℕ
-others = 0 ∷ 1 ∷ 2 ∷ 3 ∷ 16 ∷ 17 ∷ 18 ∷ 19 ∷ 20 ∷ 21 ∷ []
-
-pub asks_none : (c : Command) → OneOf others (tag_of the_type c) → call_of c ≡ none
-asks_none CommandV.Skip h = refl
-asks_none CommandV.Wrong h = refl
-asks_none (CommandV.Setup x) h = refl
-asks_none CommandV.SetupOut h = refl
-asks_none CommandV.Reserve h = absurd (miss others 4 tt h)
-asks_none (CommandV.Release t) h = absurd (miss others 5 tt h)
-asks_none (CommandV.Add o named) h = absurd (miss others 6 tt h)
-asks_none CommandV.AddNowhere h = refl
-asks_none (CommandV.Remove t) h = absurd (miss others 8 tt h)
-asks_none (CommandV.Trigger t start) h = absurd (miss others 9 tt h)
-asks_none (CommandV.Publish clock part) h = absurd (miss others 10 tt h)
-asks_none CommandV.Complete h = absurd (miss others 11 tt h)
-asks_none (CommandV.Listed t) h = absurd (miss others 12 tt h)
-asks_none (CommandV.Transfers t) h = absurd (miss others 13 tt h)
-asks_none (CommandV.RunFdt clock draft) h = absurd (miss others 14 tt h)
-asks_none (CommandV.Run i clock) h = absurd (miss others 15 tt h)
-asks_none (CommandV.Partition l e b) h = refl
-asks_none (CommandV.BlockLength l e b k) h = refl
-asks_none (CommandV.RawLength large small larges l e k) h = refl
-asks_none (CommandV.Drain l e b w) h = refl
-asks_none (CommandV.WriteRecord r room) h = refl
-asks_none (CommandV.ReadRecord a) h = refl
+-- a command that is none of those that ask for a call
+pub asks_none : (c : Command) → (c ≡ CommandV.Reserve → ⊥) → ((t : ℕ) → c ≡ CommandV.Release t → ⊥) → ((o : Object) (named : Named) → c ≡ CommandV.Add o named → ⊥)
+    → ((t : ℕ) → c ≡ CommandV.Remove t → ⊥) → ((t : ℕ) (start : Time) → c ≡ CommandV.Trigger t start → ⊥)
+    → ((clock : ℕ) (part : Part) → c ≡ CommandV.Publish clock part → ⊥) → (c ≡ CommandV.Complete → ⊥) → ((t : ℕ) → c ≡ CommandV.Listed t → ⊥)
+    → ((t : ℕ) → c ≡ CommandV.Transfers t → ⊥) → ((clock : ℕ) (draft : Draft) → c ≡ CommandV.RunFdt clock draft → ⊥)
+    → ((i clock : ℕ) → c ≡ CommandV.Run i clock → ⊥) → call_of c ≡ none
+asks_none CommandV.Skip h1 h2 h3 h4 h5 h6 h7 h8 h9 h10 h11 = refl
+asks_none CommandV.Wrong h1 h2 h3 h4 h5 h6 h7 h8 h9 h10 h11 = refl
+asks_none (CommandV.Setup x) h1 h2 h3 h4 h5 h6 h7 h8 h9 h10 h11 = refl
+asks_none CommandV.SetupOut h1 h2 h3 h4 h5 h6 h7 h8 h9 h10 h11 = refl
+asks_none CommandV.Reserve h1 h2 h3 h4 h5 h6 h7 h8 h9 h10 h11 = absurd (h1 refl)
+asks_none (CommandV.Release t) h1 h2 h3 h4 h5 h6 h7 h8 h9 h10 h11 = absurd (h2 t refl)
+asks_none (CommandV.Add o named) h1 h2 h3 h4 h5 h6 h7 h8 h9 h10 h11 = absurd (h3 o named refl)
+asks_none CommandV.AddNowhere h1 h2 h3 h4 h5 h6 h7 h8 h9 h10 h11 = refl
+asks_none (CommandV.Remove t) h1 h2 h3 h4 h5 h6 h7 h8 h9 h10 h11 = absurd (h4 t refl)
+asks_none (CommandV.Trigger t start) h1 h2 h3 h4 h5 h6 h7 h8 h9 h10 h11 = absurd (h5 t start refl)
+asks_none (CommandV.Publish clock part) h1 h2 h3 h4 h5 h6 h7 h8 h9 h10 h11 = absurd (h6 clock part refl)
+asks_none CommandV.Complete h1 h2 h3 h4 h5 h6 h7 h8 h9 h10 h11 = absurd (h7 refl)
+asks_none (CommandV.Listed t) h1 h2 h3 h4 h5 h6 h7 h8 h9 h10 h11 = absurd (h8 t refl)
+asks_none (CommandV.Transfers t) h1 h2 h3 h4 h5 h6 h7 h8 h9 h10 h11 = absurd (h9 t refl)
+asks_none (CommandV.RunFdt clock draft) h1 h2 h3 h4 h5 h6 h7 h8 h9 h10 h11 = absurd (h10 clock draft refl)
+asks_none (CommandV.Run i clock) h1 h2 h3 h4 h5 h6 h7 h8 h9 h10 h11 = absurd (h11 i clock refl)
+asks_none (CommandV.Partition l e b) h1 h2 h3 h4 h5 h6 h7 h8 h9 h10 h11 = refl
+asks_none (CommandV.BlockLength l e b k) h1 h2 h3 h4 h5 h6 h7 h8 h9 h10 h11 = refl
+asks_none (CommandV.RawLength large small larges l e k) h1 h2 h3 h4 h5 h6 h7 h8 h9 h10 h11 = refl
+asks_none (CommandV.Drain l e b w) h1 h2 h3 h4 h5 h6 h7 h8 h9 h10 h11 = refl
+asks_none (CommandV.WriteRecord r room) h1 h2 h3 h4 h5 h6 h7 h8 h9 h10 h11 = refl
+asks_none (CommandV.ReadRecord a) h1 h2 h3 h4 h5 h6 h7 h8 h9 h10 h11 = refl
 
 -- a sender that stays as it is
 pub still : {s : Sender} {r : Desk} (o : Bool) (y : Reply) → ValidSender s → r ≡ reply_with o s y → ValidSender r.sender
@@ -140,10 +140,6 @@ not_alone (CommandV.Drain l e b w) h1 h2 h3 h4 h5 h6 h7 = absurd (h5 l e b w ref
 not_alone (CommandV.WriteRecord r room) h1 h2 h3 h4 h5 h6 h7 = absurd (h6 r room refl)
 not_alone (CommandV.ReadRecord a) h1 h2 h3 h4 h5 h6 h7 = absurd (h7 a refl)
 
--- a command is not one at another place
-pub elsewhere : (ks : List ℕ) (c k : Command) → OneOf ks (tag_of the_type c) → T (not (has_key ks (tag_of the_type k))) → c ≡ k → ⊥
-elsewhere ks c k h m f = miss ks (tag_of the_type k) m (subst (λ (y : Command). OneOf ks (tag_of the_type y)) f h)
-
 -- a set-up, one that is out of range, a line that cannot be read, and any other
 pub set_up_answered : {c : Command} {d r : Desk} {z : Setup} (x : Opening) → c ≡ CommandV.Setup x → z ≡ setup_named x → SetsUp z r → SetUpAnswers c d r
 set_up_answered {c} {d} {r} {z} x e h p =
@@ -158,15 +154,6 @@ set_up_out e p = record { begun = λ y f. clash (cc); out = λ f. p; wrong = λ 
 
 pub wrong_answered : {c : Command} {d r : Desk} → c ≡ CommandV.Wrong → r ≡ reply_with d.«open» d.sender ReplyV.Error → SetUpAnswers c d r
 wrong_answered e p = record { begun = λ y f. clash (cc); out = λ f. clash (cc); wrong = λ f. p }
-
-pub no_set_up : {d r : Desk} (ks : List ℕ) (c : Command) → OneOf ks (tag_of the_type c) →
-    T (not (has_key ks 1)) → T (not (has_key ks 2)) → T (not (has_key ks 3)) → SetUpAnswers c d r
-no_set_up ks c h one two three =
-    record {
-      begun = λ y f. absurd (elsewhere ks c (CommandV.Setup y) h two f);
-      out = λ f. absurd (elsewhere ks c CommandV.SetupOut h three f);
-      wrong = λ f. absurd (elsewhere ks c CommandV.Wrong h one f);
-    }
 
 -- a command that is not one of these three
 pub not_set_up : {c : Command} {d r : Desk} → ((x : Opening) → c ≡ CommandV.Setup x → ⊥) → (c ≡ CommandV.SetupOut → ⊥) → (c ≡ CommandV.Wrong → ⊥)

@@ -121,6 +121,14 @@ pub fn sd_run(s: &mut Sender, i: u64, at: u64) -> Sent
             return f.answer;
         }
     }
+    run_whole(s, i, at)
+}
+
+// The same run on a copy of the whole sender. It is a function of its own, so that only such a run pays for the room of the copy.
+fn run_whole(s: &mut Sender, i: u64, at: u64) -> Sent
+    requires { ValidSender s.old }
+    ensures { RunsFileLent i at s.old s.new result }
+{
     let r = ran(*s, i, at);
     *s = r.sender;
     r.answer

@@ -2,8 +2,7 @@
 use mathlib.Core.Path.{ap}
 use borrow.Author.Rules.{rules}
 use Rattle.desk_program.specs.Plays.{call_of}
-use Rattle.desk_program.specs.declared.command.Command.TheVariants.{AddNowhere}
-use Rattle.desk_program.proofs.PlayLaws.{others, elsewhere, calls_of, calls_none, asks_none}
+use Rattle.desk_program.proofs.PlayLaws.{calls_of, calls_none, asks_none}
 use Rattle.desk_program.proofs.play.call.Goals as goal
 
 pub returns-in-Reserve : goal.returns-in-Reserve
@@ -43,4 +42,6 @@ pub returns-in-Run : goal.returns-in-Run
 returns-in-Run c = calls_of (ap call_of c.in-Run.is) c.run.ensures
 
 pub returns-in_default : goal.returns-in_default
-returns-in_default c = calls_none _ _ (asks_none c.args.c c.in_default.in_default-own.keys13) (search rules) c.replied-in_default.ensures (λ f. absurd (elsewhere others c.args.c AddNowhere c.in_default.in_default-own.keys13 tt f))
+returns-in_default c =
+    let n = c.in_default in
+    calls_none _ _ (asks_none c.args.c n.not-Reserve n.not-Release n.not-Add n.not-Remove n.not-Trigger n.not-Publish n.not-Complete n.not-Listed n.not-Transfers n.not-RunFdt n.not-Run) (search rules) c.replied-in_default.ensures (λ f. absurd (n.not-AddNowhere f))
