@@ -5,7 +5,7 @@ use Rattle.wire.specs.declared.record.Record.{Record}
 use Rattle.wire.specs.declared.record.Reading.{Reading}
 use mathlib.Core.Path.{◌≡◌, refl, subst, sym, ◌∙◌, ap}
 use mathlib.Core.Bool.{Bool, true, false, true≢false}
-use mathlib.Core.Option.{none, some}
+use Rattle.std.specs.Prelude.{None, Some}
 use Prim.Native.Nat.{ℕ}
 use native.Mathlib.Omega.{arith}
 use Rattle.definition.specs.Desk.{Call}
@@ -31,15 +31,15 @@ pub clash : {A : Type 0} → ◌≡◌ {A = ℕ} 0 1 → A
 clash e = absurd (omega arith)
 
 -- a call that was played as one, and a command that asks for none
-pub calls_of : {c : Command} {k : Call} {s : Sender} {r : Desk} → call_of c ≡ some k → PlaysCall k s r → Calls c s r
+pub calls_of : {c : Command} {k : Call} {s : Sender} {r : Desk} → call_of c ≡ Some k → PlaysCall k s r → Calls c s r
 calls_of {c} {k} {s} {r} e p =
     record {
       valid = p.kept.valid;
       played = λ l f. subst (λ (x : Call). PlaysCall x s r) (cc) p;
-      nowhere = λ f. let g : none ≡ some k = sym (ap call_of f) ∙ e in clash (cc);
+      nowhere = λ f. let g : None ≡ Some k = sym (ap call_of f) ∙ e in clash (cc);
     }
 
-pub calls_none : {c : Command} {s : Sender} {r : Desk} (o : Bool) (y : Reply) → call_of c ≡ none → ValidSender s → r ≡ reply_with o s y →
+pub calls_none : {c : Command} {s : Sender} {r : Desk} (o : Bool) (y : Reply) → call_of c ≡ None → ValidSender s → r ≡ reply_with o s y →
     (c ≡ CommandV.AddNowhere → r ≡ reply_with true s (ReplyV.Refused Because.NoPriority)) → Calls c s r
 calls_none {c} {s} {r} o y e v h w = record { valid = rw h v; played = λ l f. clash (cc); nowhere = w }
 
@@ -48,7 +48,7 @@ pub asks_none : (c : Command) → (c ≡ CommandV.Reserve → ⊥) → ((t : ℕ
     → ((t : ℕ) → c ≡ CommandV.Remove t → ⊥) → ((t : ℕ) (start : Time) → c ≡ CommandV.Trigger t start → ⊥)
     → ((clock : ℕ) (part : Part) → c ≡ CommandV.Publish clock part → ⊥) → (c ≡ CommandV.Complete → ⊥) → ((t : ℕ) → c ≡ CommandV.Listed t → ⊥)
     → ((t : ℕ) → c ≡ CommandV.Transfers t → ⊥) → ((clock : ℕ) (draft : Draft) → c ≡ CommandV.RunFdt clock draft → ⊥)
-    → ((i clock : ℕ) → c ≡ CommandV.Run i clock → ⊥) → call_of c ≡ none
+    → ((i clock : ℕ) → c ≡ CommandV.Run i clock → ⊥) → call_of c ≡ None
 asks_none CommandV.Skip h1 h2 h3 h4 h5 h6 h7 h8 h9 h10 h11 = refl
 asks_none CommandV.Wrong h1 h2 h3 h4 h5 h6 h7 h8 h9 h10 h11 = refl
 asks_none (CommandV.Setup x) h1 h2 h3 h4 h5 h6 h7 h8 h9 h10 h11 = refl
@@ -77,7 +77,7 @@ pub still : {s : Sender} {r : Desk} (o : Bool) (y : Reply) → ValidSender s →
 still o y v h = rw h v
 
 -- a command that asks for no call, a call of an open desk, and any of one that is not
-pub answers_none : {c : Command} {d r : Desk} → call_of c ≡ none → (c ≡ CommandV.AddNowhere → ⊥) → ValidSender r.sender → Answers c d r
+pub answers_none : {c : Command} {d r : Desk} → call_of c ≡ None → (c ≡ CommandV.AddNowhere → ⊥) → ValidSender r.sender → Answers c d r
 answers_none e n v =
     record {
       valid = v;
@@ -105,10 +105,10 @@ answers_shut t v h =
     }
 
 -- a command that needs no sender; a call of one, and a set-up
-pub stays_as : {c : Command} {d r : Desk} {y : Reply} → alone c ≡ some y → r ≡ reply_with d.«open» d.sender y → Stays c d r
+pub stays_as : {c : Command} {d r : Desk} {y : Reply} → alone c ≡ Some y → r ≡ reply_with d.«open» d.sender y → Stays c d r
 stays_as {c} {d} {r} {y} e h = record { stays = λ z f. let q : y ≡ z = cc in h ∙ ap (reply_with d.«open» d.sender) q }
 
-pub stays_none : {c : Command} {d r : Desk} → alone c ≡ none → Stays c d r
+pub stays_none : {c : Command} {d r : Desk} → alone c ≡ None → Stays c d r
 stays_none e = record { stays = λ y f. clash (cc) }
 
 -- a command that is none of those that need no sender
@@ -116,7 +116,7 @@ pub not_alone : (c : Command) → (c ≡ CommandV.Skip → ⊥) → ((l e b : �
     → ((l e b : ℕ) (k : Sbn) → c ≡ CommandV.BlockLength l e b k → ⊥)
     → ((large small larges l e : ℕ) (k : Sbn) → c ≡ CommandV.RawLength large small larges l e k → ⊥)
     → ((l e b w : ℕ) → c ≡ CommandV.Drain l e b w → ⊥) → ((r : Record) (room : ℕ) → c ≡ CommandV.WriteRecord r room → ⊥)
-    → ((a : Reading) → c ≡ CommandV.ReadRecord a → ⊥) → alone c ≡ none
+    → ((a : Reading) → c ≡ CommandV.ReadRecord a → ⊥) → alone c ≡ None
 not_alone CommandV.Skip h1 h2 h3 h4 h5 h6 h7 = absurd (h1 refl)
 not_alone CommandV.Wrong h1 h2 h3 h4 h5 h6 h7 = refl
 not_alone (CommandV.Setup x) h1 h2 h3 h4 h5 h6 h7 = refl

@@ -1,7 +1,7 @@
 -- What the commands ask of a sender, and what is promised of each: the definition's answer, and its desk.
 use Rattle.sizes.specs.declared.refusal.Refusal.TheVariants as Because
 use Rattle.std.specs.Prelude.{◌≡◌, Bool, true, false, ℕ}
-use Rattle.std.proofs.Math.Option.{Option, none, some}
+use Rattle.std.specs.Prelude.{Option, None, Some}
 use Rattle.sizes.specs.Words.{when◌then◌else◌}
 use Rattle.sizes.specs.Partition.{partition_of, block_length, sizes_given}
 use Rattle.lifecycle.specs.FileDesc.{time_of}
@@ -67,28 +67,28 @@ pub record PlaysCall (c : Def.Call) (s : Sender) (r : Desk) : Type 0 where
 
 -- what a command asks of a sender; none where it asks nothing
 abbrev pub call_of : Command → Option Def.Call
-call_of CommandV.Skip = none
-call_of CommandV.Wrong = none
-call_of (CommandV.Setup x) = none
-call_of CommandV.SetupOut = none
-call_of CommandV.Reserve = some asks_reserve
-call_of (CommandV.Release t) = some (asks_release t)
-call_of (CommandV.Add o named) = some (asks_add o named)
-call_of CommandV.AddNowhere = none
-call_of (CommandV.Remove t) = some (asks_remove t)
-call_of (CommandV.Trigger t start) = some (asks_trigger t start)
-call_of (CommandV.Publish clock part) = some (asks_publish clock part)
-call_of CommandV.Complete = some asks_complete
-call_of (CommandV.Listed t) = some (asks_listed t)
-call_of (CommandV.Transfers t) = some (asks_transfers t)
-call_of (CommandV.RunFdt clock draft) = some (asks_run_fdt clock draft)
-call_of (CommandV.Run i clock) = some (asks_run i clock)
-call_of (CommandV.Partition l e b) = none
-call_of (CommandV.BlockLength l e b k) = none
-call_of (CommandV.RawLength large small larges l e k) = none
-call_of (CommandV.Drain l e b w) = none
-call_of (CommandV.WriteRecord r room) = none
-call_of (CommandV.ReadRecord a) = none
+call_of CommandV.Skip = None
+call_of CommandV.Wrong = None
+call_of (CommandV.Setup x) = None
+call_of CommandV.SetupOut = None
+call_of CommandV.Reserve = Some asks_reserve
+call_of (CommandV.Release t) = Some (asks_release t)
+call_of (CommandV.Add o named) = Some (asks_add o named)
+call_of CommandV.AddNowhere = None
+call_of (CommandV.Remove t) = Some (asks_remove t)
+call_of (CommandV.Trigger t start) = Some (asks_trigger t start)
+call_of (CommandV.Publish clock part) = Some (asks_publish clock part)
+call_of CommandV.Complete = Some asks_complete
+call_of (CommandV.Listed t) = Some (asks_listed t)
+call_of (CommandV.Transfers t) = Some (asks_transfers t)
+call_of (CommandV.RunFdt clock draft) = Some (asks_run_fdt clock draft)
+call_of (CommandV.Run i clock) = Some (asks_run i clock)
+call_of (CommandV.Partition l e b) = None
+call_of (CommandV.BlockLength l e b k) = None
+call_of (CommandV.RawLength large small larges l e k) = None
+call_of (CommandV.Drain l e b w) = None
+call_of (CommandV.WriteRecord r room) = None
+call_of (CommandV.ReadRecord a) = None
 
 abbrev pub reply_with : Bool → Sender → Reply → Desk
 reply_with o s y = record { «open» = o; reply = y; sender = s }
@@ -96,14 +96,14 @@ reply_with o s y = record { «open» = o; reply = y; sender = s }
 -- of a command that needs the sender
 pub record Calls (c : Command) (s : Sender) (r : Desk) : Type 0 where
   pub valid : ValidSender r.sender
-  pub played : (k : Def.Call) → call_of c ≡ some k → PlaysCall k s r
+  pub played : (k : Def.Call) → call_of c ≡ Some k → PlaysCall k s r
   -- no session has a priority above 32 bits
   pub nowhere : c ≡ CommandV.AddNowhere → r ≡ reply_with true s (ReplyV.Refused Because.NoPriority)
 
 -- of a set-up: the definition's answer, and its desk
 pub record SetsUp (z : Setup) (r : Desk) : Type 0 where
   pub says : Says (set_up_said r.«open») r.reply
-  pub means : Def.set_up (setup_said z) ≡ (when r.«open» then (Def.Answer.done, some (desk_of r.sender)) else (Def.Answer.refused Because.SetUp, none))
+  pub means : Def.set_up (setup_said z) ≡ (when r.«open» then (Def.Answer.done, Some (desk_of r.sender)) else (Def.Answer.refused Because.SetUp, None))
   pub valid : ValidSender r.sender
 
 -- no set-up is accepted
@@ -115,38 +115,38 @@ pub record Shut (r : Desk) : Type 0 where
 -- of any command: a call of an open desk is played; where no set-up was accepted it is an error, and nothing changes
 pub record Answers (c : Command) (d r : Desk) : Type 0 where
   pub valid : ValidSender r.sender
-  pub played : (k : Def.Call) → call_of c ≡ some k → d.«open» ≡ true → PlaysCall k d.sender r
-  pub shut : (k : Def.Call) → call_of c ≡ some k → d.«open» ≡ false → r ≡ reply_with false d.sender ReplyV.Error
+  pub played : (k : Def.Call) → call_of c ≡ Some k → d.«open» ≡ true → PlaysCall k d.sender r
+  pub shut : (k : Def.Call) → call_of c ≡ Some k → d.«open» ≡ false → r ≡ reply_with false d.sender ReplyV.Error
   pub nowhere : c ≡ CommandV.AddNowhere → r ≡ (when d.«open» then reply_with true d.sender (ReplyV.Refused Because.NoPriority) else reply_with false d.sender ReplyV.Error)
 
 -- the reply to a command that needs no sender: an empty line or a comment, a partition, a block's length, a transfer's lines, a record
 abbrev pub alone : Command → Option Reply
-alone CommandV.Skip = some ReplyV.Silent
-alone CommandV.Wrong = none
-alone (CommandV.Setup x) = none
-alone CommandV.SetupOut = none
-alone CommandV.Reserve = none
-alone (CommandV.Release t) = none
-alone (CommandV.Add o named) = none
-alone CommandV.AddNowhere = none
-alone (CommandV.Remove t) = none
-alone (CommandV.Trigger t start) = none
-alone (CommandV.Publish clock part) = none
-alone CommandV.Complete = none
-alone (CommandV.Listed t) = none
-alone (CommandV.Transfers t) = none
-alone (CommandV.RunFdt clock draft) = none
-alone (CommandV.Run i clock) = none
-alone (CommandV.Partition l e b) = some (ReplyV.Cut (partition_of b l e))
-alone (CommandV.BlockLength l e b k) = let p = partition_of b l e in some (length_shown (block_length (sizes_given p.large p.small p.nb_a_large) l e k))
-alone (CommandV.RawLength large small larges l e k) = some (length_shown (block_length (sizes_given large small larges) l e k))
-alone (CommandV.Drain l e b w) = some (ReplyV.Drained l e b w)
-alone (CommandV.WriteRecord r room) = some (record_shown r room)
-alone (CommandV.ReadRecord a) = some (reading_shown a)
+alone CommandV.Skip = Some ReplyV.Silent
+alone CommandV.Wrong = None
+alone (CommandV.Setup x) = None
+alone CommandV.SetupOut = None
+alone CommandV.Reserve = None
+alone (CommandV.Release t) = None
+alone (CommandV.Add o named) = None
+alone CommandV.AddNowhere = None
+alone (CommandV.Remove t) = None
+alone (CommandV.Trigger t start) = None
+alone (CommandV.Publish clock part) = None
+alone CommandV.Complete = None
+alone (CommandV.Listed t) = None
+alone (CommandV.Transfers t) = None
+alone (CommandV.RunFdt clock draft) = None
+alone (CommandV.Run i clock) = None
+alone (CommandV.Partition l e b) = Some (ReplyV.Cut (partition_of b l e))
+alone (CommandV.BlockLength l e b k) = let p = partition_of b l e in Some (length_shown (block_length (sizes_given p.large p.small p.nb_a_large) l e k))
+alone (CommandV.RawLength large small larges l e k) = Some (length_shown (block_length (sizes_given large small larges) l e k))
+alone (CommandV.Drain l e b w) = Some (ReplyV.Drained l e b w)
+alone (CommandV.WriteRecord r room) = Some (record_shown r room)
+alone (CommandV.ReadRecord a) = Some (reading_shown a)
 
 -- of such a command: that reply, and nothing changes
 pub record Stays (c : Command) (d r : Desk) : Type 0 where
-  pub stays : (y : Reply) → alone c ≡ some y → r ≡ reply_with d.«open» d.sender y
+  pub stays : (y : Reply) → alone c ≡ Some y → r ≡ reply_with d.«open» d.sender y
 
 -- of a set-up, and of a line that cannot be read
 pub record SetUpAnswers (c : Command) (d r : Desk) : Type 0 where

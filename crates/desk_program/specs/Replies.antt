@@ -1,6 +1,6 @@
 -- What a reply says, as the definition's answer.
 use Rattle.std.specs.Prelude.{◌≡◌, Bool, true, false, ℕ}
-use Rattle.std.proofs.Math.Option.{Option, none, some}
+use Rattle.std.specs.Prelude.{Option, None, Some}
 use Rattle.sizes.specs.Words.{when◌then◌else◌}
 use Rattle.sizes.specs.declared.refusal.Refusal.TheVariants as Because
 use Rattle.lifecycle.specs.FdtCalls.{transfers_said}
@@ -16,27 +16,27 @@ use Rattle.desk_program.specs.declared.reply.Reply.TheVariants as ReplyV
 
 -- none: it answers no call of a sender
 abbrev pub reply_said : Reply → Option Def.Answer
-reply_said ReplyV.Silent = none
-reply_said ReplyV.Error = none
-reply_said ReplyV.Done = some Def.Answer.done
-reply_said (ReplyV.Refused why) = some (Def.Answer.refused why)
-reply_said (ReplyV.Toi n) = some (Def.Answer.number n)
-reply_said ReplyV.Yes = some (Def.Answer.truth true)
-reply_said ReplyV.No = some (Def.Answer.truth false)
-reply_said (ReplyV.Number n) = some (Def.Answer.transferred (some n))
-reply_said ReplyV.Missing = some (Def.Answer.transferred none)
-reply_said ReplyV.Nothing = some (Def.Answer.output none)
-reply_said (ReplyV.Sent p) = some (Def.Answer.output (some (packet_said p)))
-reply_said (ReplyV.NoFdt taken) = some (Def.Answer.fdt_output taken none)
-reply_said (ReplyV.SentFdt taken p) = some (Def.Answer.fdt_output taken (some (packet_said p)))
-reply_said (ReplyV.Cut p) = none
-reply_said (ReplyV.Drained l e b w) = none
-reply_said (ReplyV.Written r room) = none
-reply_said (ReplyV.Fields r) = none
+reply_said ReplyV.Silent = None
+reply_said ReplyV.Error = None
+reply_said ReplyV.Done = Some Def.Answer.done
+reply_said (ReplyV.Refused why) = Some (Def.Answer.refused why)
+reply_said (ReplyV.Toi n) = Some (Def.Answer.number n)
+reply_said ReplyV.Yes = Some (Def.Answer.truth true)
+reply_said ReplyV.No = Some (Def.Answer.truth false)
+reply_said (ReplyV.Number n) = Some (Def.Answer.transferred (Some n))
+reply_said ReplyV.Missing = Some (Def.Answer.transferred None)
+reply_said ReplyV.Nothing = Some (Def.Answer.output None)
+reply_said (ReplyV.Sent p) = Some (Def.Answer.output (Some (packet_said p)))
+reply_said (ReplyV.NoFdt taken) = Some (Def.Answer.fdt_output taken None)
+reply_said (ReplyV.SentFdt taken p) = Some (Def.Answer.fdt_output taken (Some (packet_said p)))
+reply_said (ReplyV.Cut p) = None
+reply_said (ReplyV.Drained l e b w) = None
+reply_said (ReplyV.Written r room) = None
+reply_said (ReplyV.Fields r) = None
 
 -- the reply says this answer
 abbrev pub Says : Def.Answer → Reply → Type 0
-Says a r = reply_said r ≡ some a
+Says a r = reply_said r ≡ Some a
 
 abbrev pub set_up_said : Bool → Def.Answer
 set_up_said ok = when ok then Def.Answer.done else Def.Answer.refused Because.SetUp
@@ -46,8 +46,8 @@ truth_said b = Def.Answer.truth b
 
 -- the reply to a block's length, if it has one
 abbrev pub length_shown : Option ℕ → Reply
-length_shown none = ReplyV.Missing
-length_shown (some n) = ReplyV.Number n
+length_shown None = ReplyV.Missing
+length_shown (Some n) = ReplyV.Number n
 
 -- the reply to a command that writes a record: the record, if it can be written
 abbrev pub record_shown : Record → ℕ → Reply

@@ -1,7 +1,7 @@
 -- What the calls of the FDT side keep: the objects stay, and what holds of every FDT's part holds after each call.
 use mathlib.Core.Path.{◌≡◌, refl, sym, ◌∙◌, ap, subst}
 use mathlib.Core.Bool.{Bool, true, false, ◌&&◌, false≢true}
-use mathlib.Core.Option.{some}
+use Rattle.std.specs.Prelude.{Some}
 use mathlib.Core.List.{List, map}
 use Prim.Native.Nat.{ℕ, suc, ◌+◌, ◌≤◌, ◌<◌}
 use native.Mathlib.Omega.{arith}
@@ -161,7 +161,7 @@ module _ (P : Part → Type 0) (a : Announcer) (p : EachFdt P a) where
   start_each r now taken = if_on (λ (n : NextInstance). EachFdt P n.announcer) (a.has_current && may_start (plan_of r) now (life_of a.current.life))
       (λ e. holding_each (started_instance r now a.current) refl) (λ e. p)
 
-  republished_each : ValidAnnouncer a → (validity now : ℕ) (draft : Draft) → ((c : Part) → draft_given draft ≡ some c → P c) → EachFdt P (republished_of validity now draft a)
+  republished_each : ValidAnnouncer a → (validity now : ℕ) (draft : Draft) → ((c : Part) → draft_given draft ≡ Some c → P c) → EachFdt P (republished_of validity now draft a)
   unfolding republished_of
   republished_each v validity now (Given c) g = if_on (EachFdt P) (needs_new_of validity now a)
       (λ e. queued_each now c v (let n = needed_empty validity now a e in omega arith) (g c refl)) (λ e. p)
@@ -173,7 +173,7 @@ module _ (P : Part → Type 0) (a : Announcer) (p : EachFdt P a) where
 
 module _ (P : Part → Type 0) (now : ℕ) (f : Fdt) (p : EachFdt P f.announcer) where
   -- a draft may be published
-  pub next_fdt_each : (draft : Draft) → ValidAnnouncer f.announcer → ((c : Part) → draft_given draft ≡ some c → P c) → EachFdt P (next_fdt_of now draft f).fdt.announcer
+  pub next_fdt_each : (draft : Draft) → ValidAnnouncer f.announcer → ((c : Part) → draft_given draft ≡ Some c → P c) → EachFdt P (next_fdt_of now draft f).fdt.announcer
   unfolding next_of
   next_fdt_each draft v g = subst (EachFdt P) (sym (next_fdt_side now draft f)) (if_on (λ (n : NextInstance). EachFdt P n.announcer) (transferring_of f.announcer) (λ e. p) (λ e.
       let b = republished_of f.settings.validity now draft f.announcer in

@@ -1,7 +1,7 @@
 -- Laws of the FDT side: what each function makes of it in the definition's words, and that the FDT side stays valid.
 use mathlib.Core.Path.{◌≡◌, refl, sym, ◌∙◌, ap, subst}
 use mathlib.Core.Bool.{Bool, true, false, not, ◌&&◌, ◌||◌, true≢false}
-use mathlib.Core.Option.{none, some}
+use Rattle.std.specs.Prelude.{None, Some}
 use mathlib.Core.List.{List, [], ◌∷◌, ◌++◌, map}
 use Prim.Native.Nat.{ℕ, zero, suc, ◌+◌, ◌-◌, ◌≤◌, ◌<◌}
 use native.Mathlib.Nat.{mod-lt}
@@ -61,7 +61,7 @@ needed_empty validity now a e =
 
 -- ---- words
 
-given_if : {A : Type 0} (b : Bool) (x : A) → given (when b then some x else none) ≡ b
+given_if : {A : Type 0} (b : Bool) (x : A) → given (when b then Some x else None) ≡ b
 given_if true x = refl
 given_if false x = refl
 
@@ -190,42 +190,42 @@ ended now i = record { id = i.id; part = i.part; life = finished now i.life; tra
 module _ (f : FdtState) where
   front_none : f.waiting ≡ [] → front_taken f ≡ f
   unfolding front_taken
-  front_none e = ap (λ w. elim w [ [] ↦ f | i ∷ rest ↦ record { next_id = f.next_id; last = f.last; waiting = rest; current = some i } ]) e
+  front_none e = ap (λ w. elim w [ [] ↦ f | i ∷ rest ↦ record { next_id = f.next_id; last = f.last; waiting = rest; current = Some i } ]) e
 
   front_some : (i : Def.Instance) (rest : List Def.Instance) → f.waiting ≡ i ∷ rest
-      → front_taken f ≡ record { next_id = f.next_id; last = f.last; waiting = rest; current = some i }
+      → front_taken f ≡ record { next_id = f.next_id; last = f.last; waiting = rest; current = Some i }
   unfolding front_taken
-  front_some i rest e = ap (λ w. elim w [ [] ↦ f | i ∷ rest ↦ record { next_id = f.next_id; last = f.last; waiting = rest; current = some i } ]) e
+  front_some i rest e = ap (λ w. elim w [ [] ↦ f | i ∷ rest ↦ record { next_id = f.next_id; last = f.last; waiting = rest; current = Some i } ]) e
 
-  done_none : (now : ℕ) → f.current ≡ none → fdt_done now f ≡ f
+  done_none : (now : ℕ) → f.current ≡ None → fdt_done now f ≡ f
   unfolding fdt_done
   done_none now e = rw e
 
-  done_some : (now : ℕ) (i : Def.Instance) → f.current ≡ some i → fdt_done now f ≡ with_current f (ended now i)
+  done_some : (now : ℕ) (i : Def.Instance) → f.current ≡ Some i → fdt_done now f ≡ with_current f (ended now i)
   unfolding fdt_done
   done_some now i e = rw e
 
   module _ (s : Setup) (now : ℕ) (taken : Bool) where
-    start_none : f.current ≡ none → start_current s now taken f ≡ record { taken = taken; state = f; starts = none }
+    start_none : f.current ≡ None → start_current s now taken f ≡ record { taken = taken; state = f; starts = None }
     unfolding start_current
     start_none e = rw e
 
-    start_idle : (i : Def.Instance) → f.current ≡ some i → may_start (fdt_plan s) now i.life ≡ false → start_current s now taken f ≡ record { taken = taken; state = f; starts = none }
+    start_idle : (i : Def.Instance) → f.current ≡ Some i → may_start (fdt_plan s) now i.life ≡ false → start_current s now taken f ≡ record { taken = taken; state = f; starts = None }
     unfolding start_current
     start_idle i e q = rw (e, q)
 
-    start_on : (i : Def.Instance) → f.current ≡ some i → may_start (fdt_plan s) now i.life ≡ true
-        → start_current s now taken f ≡ record { taken = taken; state = with_current f (begun s now i); starts = some (begun s now i) }
+    start_on : (i : Def.Instance) → f.current ≡ Some i → may_start (fdt_plan s) now i.life ≡ true
+        → start_current s now taken f ≡ record { taken = taken; state = with_current f (begun s now i); starts = Some (begun s now i) }
     unfolding start_current
     start_on i e q = rw (e, q)
 
 -- the state of the code, case by case
 module _ (a : Announcer) where
-  current_none : a.has_current ≡ false → (state_of a).current ≡ none
+  current_none : a.has_current ≡ false → (state_of a).current ≡ None
   unfolding state_of
   current_none e = rw e
 
-  current_some : a.has_current ≡ true → (state_of a).current ≡ some (instance_of a.current)
+  current_some : a.has_current ≡ true → (state_of a).current ≡ Some (instance_of a.current)
   unfolding state_of
   current_some e = rw e
 
@@ -277,13 +277,13 @@ starts_said s r now taken a p = go (tested a.has_current) (tested (may_start (pl
     pick : Bool → NextInstance
     pick b = when b then record { taken = taken; starts = true; announcer = holding a (started_instance r now a.current) } else record { taken = taken; starts = false; announcer = a }
 
-    stays : next_told (pick false) ≡ record { taken = taken; state = state_of a; starts = none }
+    stays : next_told (pick false) ≡ record { taken = taken; state = state_of a; starts = None }
     stays = refl
 
-    starts : a.has_current ≡ true → next_told (pick true) ≡ record { taken = taken; state = with_current (state_of a) (begun s now (instance_of a.current)); starts = some (begun s now (instance_of a.current)) }
+    starts : a.has_current ≡ true → next_told (pick true) ≡ record { taken = taken; state = with_current (state_of a) (begun s now (instance_of a.current)); starts = Some (begun s now (instance_of a.current)) }
     starts e =
-        ap (λ x. record { taken = taken; state = x; starts = some (instance_of (started_instance r now a.current)) }) (state_holding a (started_instance r now a.current) e)
-        ∙ ap (λ i. record { taken = taken; state = with_current (state_of a) i; starts = some i }) (instance_started s r now a.current p)
+        ap (λ x. record { taken = taken; state = x; starts = Some (instance_of (started_instance r now a.current)) }) (state_holding a (started_instance r now a.current) e)
+        ∙ ap (λ i. record { taken = taken; state = with_current (state_of a) i; starts = Some i }) (instance_started s r now a.current p)
 
     both : (x y : Bool) → a.has_current ≡ x → may ≡ y → next_told (start_of r now taken a) ≡ next_told (pick (x && y))
     both x y e q = ap (λ b. next_told (pick (b && may))) e ∙ ap (λ b. next_told (pick (x && b))) q
@@ -356,7 +356,7 @@ module _ (a : Announcer) (v : ValidAnnouncer a) where
   unfolding takes_draft
   takes_said s validity now draft p = rw (needs_said s validity now p)
 
-said_still : (a : Announcer) → next_told (record { taken = false; starts = false; announcer = a }) ≡ record { taken = false; state = state_of a; starts = none }
+said_still : (a : Announcer) → next_told (record { taken = false; starts = false; announcer = a }) ≡ record { taken = false; state = state_of a; starts = None }
 unfolding next_told
 said_still a = refl
 
@@ -388,7 +388,7 @@ module _ (a : Announcer) (v : ValidAnnouncer a) (s : Setup) (r : Plan) (validity
   next_state = ap (λ (x : Def.Next). x.state) (next_said a v s r validity now draft e p)
 
   -- what starts is given exactly where the code says so, and is the new current one
-  pub next_starts : (when (next_of r validity now draft a).starts then some (instance_of (next_of r validity now draft a).announcer.current) else none)
+  pub next_starts : (when (next_of r validity now draft a).starts then Some (instance_of (next_of r validity now draft a).announcer.current) else None)
       ≡ (next_fdt s now (draft_given draft) (state_of a)).starts
   unfolding next_told
   next_starts = ap (λ (x : Def.Next). x.starts) (next_said a v s r validity now draft e p)
@@ -396,11 +396,11 @@ module _ (a : Announcer) (v : ValidAnnouncer a) (s : Setup) (r : Plan) (validity
 -- ---- parts that are held
 
 module _ (c : Part) where
-  parts_shared : (l : List Instance) (m : List Part) → any (shares c) (collect (λ (i : Def.Instance). some i.part) (map instance_of l) ++ m) ≡ (any (held_of c) l || any (shares c) m)
+  parts_shared : (l : List Instance) (m : List Part) → any (shares c) (collect (λ (i : Def.Instance). Some i.part) (map instance_of l) ++ m) ≡ (any (held_of c) l || any (shares c) m)
   parts_shared [] m = refl
   parts_shared (i ∷ l) m = ap (λ b. shares c i.part || b) (parts_shared l m) ∙ or_assoc (shares c i.part) (any (held_of c) l) (any (shares c) m)
 
-  last_shared : (b : Bool) (i : Instance) → any (shares c) (maybe [] (λ (i : Def.Instance). i.part ∷ []) (when b then some (instance_of i) else none)) ≡ (b && held_of c i)
+  last_shared : (b : Bool) (i : Instance) → any (shares c) (maybe [] (λ (i : Def.Instance). i.part ∷ []) (when b then Some (instance_of i) else None)) ≡ (b && held_of c i)
   last_shared false i = refl
   last_shared true i = or_false (shares c i.part)
 

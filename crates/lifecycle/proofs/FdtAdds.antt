@@ -1,7 +1,7 @@
 -- Add for the layer above: refused, and nothing has changed; or a new object stands last in the queue, in a slot that was free.
 use mathlib.Core.Path.{◌≡◌, refl, ap}
 use mathlib.Core.Bool.{Bool, true, false, not, ◌||◌}
-use mathlib.Core.Option.{Option, none, some}
+use Rattle.std.specs.Prelude.{Option, None, Some}
 use mathlib.Core.List.{[], ◌∷◌, ◌++◌}
 use Prim.Native.Nat.{ℕ}
 use lib.Dec.{ltb}
@@ -30,7 +30,7 @@ use Rattle.lifecycle.proofs.FdtFacts.{free_at}
 use Rattle.lifecycle.proofs.FdtViews.{seen_joins}
 
 module _ (f : Fdt) (v : ValidFdt f) (q : Request) (z : Sizes) where
-  pub put_view : (a : ToiAllocator) (k t : ℕ) → place is_free f.slots ≡ some k → Seen f (files f ++ ((new_slot q z t).file ∷ [])) k (new_slot q z t) (put_of (with_tois f a) k t q z)
+  pub put_view : (a : ToiAllocator) (k t : ℕ) → place is_free f.slots ≡ Some k → Seen f (files f ++ ((new_slot q z t).file ∷ [])) k (new_slot q z t) (put_of (with_tois f a) k t q z)
   unfolding put_of
   put_view a k t e = let h = free_at f v k e in seen_joins f v k h.0 (new_slot q z t) a (ap waits h.1.blank)
 
@@ -80,7 +80,7 @@ added_view f v q named =
 
 -- ---- refusals 3 to 7, in their order
 
-refused_first : (n : Refusal) (b : Bool) (x y : Added) {o : Option Refusal} → refusal x.answer ≡ some n → refusal y.answer ≡ o → refusal (when b then x else y).answer ≡ (when b then some n else o)
+refused_first : (n : Refusal) (b : Bool) (x y : Added) {o : Option Refusal} → refusal x.answer ≡ Some n → refusal y.answer ≡ o → refusal (when b then x else y).answer ≡ (when b then Some n else o)
 refused_first n true x y e h = e
 refused_first n false x y e h = h
 
@@ -92,17 +92,17 @@ module _ (f : Fdt) (q : Request) where
       go : (b : Bool) (o : Option ℕ)
           → refusal (when b then maybe (refuses f Because.Full) (λ k. record { answer = AdmissionV.Toi t; fdt = put_of (with_tois f (Alloc.claimed_of t f.tois).allocator) k t q z }) o else refuses f Because.NotLoose).answer
           ≡ first_of ((Because.NotLoose, not b) ∷ (Because.Full, not (given o)) ∷ [])
-      go true none = refl
-      go true (some k) = refl
+      go true None = refl
+      go true (Some k) = refl
       go false o = refl
   refused_numbered z NamedV.Anew = go (ltb f.tois.entered toi_entries) (place is_free f.slots)
     where
       go : (b : Bool) (o : Option ℕ)
           → refusal (maybe (refuses f Because.Full) (λ k. when b then record { answer = AdmissionV.Toi f.tois.next; fdt = put_of (with_tois f (Alloc.allocated_of false f.tois).allocator) k f.tois.next q z } else refuses f Because.Full) o).answer
           ≡ first_of ((Because.NotLoose, false) ∷ (Because.Full, not (given o) || not b) ∷ [])
-      go b none = refl
-      go true (some k) = refl
-      go false (some k) = refl
+      go b None = refl
+      go true (Some k) = refl
+      go false (Some k) = refl
 
   pub refusal_view : (named : Named) → refusal (added_of f q named).answer
       ≡ first_of ((Because.Complete, f.complete) ∷ (Because.Sizes, bad_blocks (own_of q.own f.settings.sizes) q.part.size) ∷ (Because.Part, bad_part_of f q.part) ∷ (Because.NotLoose, unknown named f) ∷ (Because.Full, full named f) ∷ [])

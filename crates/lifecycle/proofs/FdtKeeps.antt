@@ -1,7 +1,7 @@
 -- What each call leaves as it was, and, where that is short, all that it does: the layer above cites these laws and unfolds none of the calls.
 use mathlib.Core.Path.{◌≡◌, refl, sym, ap}
 use mathlib.Core.Bool.{Bool, true, false, ◌||◌}
-use mathlib.Core.Option.{Option, none, some}
+use Rattle.std.specs.Prelude.{Option, None, Some}
 use mathlib.Core.List.{List, [], ◌∷◌}
 use Prim.Native.Nat.{ℕ, zero, suc, ◌<◌}
 use lib.Dec.{eqb, ltb, leb}
@@ -187,14 +187,14 @@ module _ (c : Part) (f : Fdt) where
     pub nonempty : eqb c.size 0 ≡ false
     pub room : f.announcer.waiting < waiting_fdts
 
-  pub publishable : publish_refusal_of ≡ none → Publishable
+  pub publishable : publish_refusal_of ≡ None → Publishable
   publishable = by (bad_blocks f.settings.sizes c.size) (bad || eqb c.size 0) (leb waiting_fdts f.announcer.waiting) refl refl refl
     where
       bad : Bool
       bad = bad_fdt_of f.settings.fdt_store c f.announcer
 
       by : (x y z : Bool) → bad_blocks f.settings.sizes c.size ≡ x → (bad || eqb c.size 0) ≡ y → leb waiting_fdts f.announcer.waiting ≡ z
-          → first_of ((Because.Sizes, x) ∷ (Because.Part, y) ∷ (Because.Full, z) ∷ []) ≡ none → Publishable
+          → first_of ((Because.Sizes, x) ∷ (Because.Part, y) ∷ (Because.Full, z) ∷ []) ≡ None → Publishable
       by true y z p q r e = absurd (none≢some (sym e))
       by false true z p q r e = absurd (none≢some (sym e))
       by false false true p q r e = absurd (none≢some (sym e))
@@ -202,14 +202,14 @@ module _ (c : Part) (f : Fdt) where
 
   -- refused, it changes nothing; else the FDT is queued, and every listed object is marked
   abbrev pub published_by : ℕ → Option Refusal → Published
-  published_by now (some why) = record { answer = PublicationV.Refused why; fdt = f }
-  published_by now none = record { answer = PublicationV.Done; fdt = with_published f (queued_of now c f.announcer) }
+  published_by now (Some why) = record { answer = PublicationV.Refused why; fdt = f }
+  published_by now None = record { answer = PublicationV.Done; fdt = with_published f (queued_of now c f.announcer) }
 
   pub publish_as : (now : ℕ) → publish_of now c f ≡ published_by now publish_refusal_of
   unfolding publish_of
   publish_as now = by (bad_blocks f.settings.sizes c.size) (bad_fdt_of f.settings.fdt_store c f.announcer || eqb c.size 0) (leb waiting_fdts f.announcer.waiting)
     where
-      by : (x y z : Bool) → (when x then published_by now (some Because.Sizes) else when y then published_by now (some Because.Part) else when z then published_by now (some Because.Full) else published_by now none)
+      by : (x y z : Bool) → (when x then published_by now (Some Because.Sizes) else when y then published_by now (Some Because.Part) else when z then published_by now (Some Because.Full) else published_by now None)
           ≡ published_by now (first_of ((Because.Sizes, x) ∷ (Because.Part, y) ∷ (Because.Full, z) ∷ []))
       by true y z = refl
       by false true z = refl
@@ -224,18 +224,18 @@ queued_current now c a = refl
 -- ---- a draft
 
 -- one of length 0 is none
-pub real_given : (draft : Draft) → draft_given (real_draft draft) ≡ maybe none (λ (c : Part). when eqb c.size 0 then none else some c) (draft_given draft)
+pub real_given : (draft : Draft) → draft_given (real_draft draft) ≡ maybe None (λ (c : Part). when eqb c.size 0 then None else Some c) (draft_given draft)
 unfolding real_draft
 real_given DraftV.Missing = refl
 real_given (DraftV.Given c) = by (eqb c.size 0)
   where
-    by : (b : Bool) → draft_given (when b then DraftV.Missing else DraftV.Given c) ≡ (when b then none else some c)
+    by : (b : Bool) → draft_given (when b then DraftV.Missing else DraftV.Given c) ≡ (when b then None else Some c)
     by true = refl
     by false = refl
 
 -- refusals 4 and 5 in their order
 pub draft_test_as : (draft : Draft) (f : Fdt) → draft_test_of draft f
-    ≡ maybe none (λ (c : Part). first_of ((Because.Sizes, bad_blocks f.settings.sizes c.size) ∷ (Because.Part, bad_fdt_of f.settings.fdt_store c f.announcer) ∷ [])) (draft_given draft)
+    ≡ maybe None (λ (c : Part). first_of ((Because.Sizes, bad_blocks f.settings.sizes c.size) ∷ (Because.Part, bad_fdt_of f.settings.fdt_store c f.announcer) ∷ [])) (draft_given draft)
 unfolding draft_test_of
 draft_test_as DraftV.Missing f = refl
 draft_test_as (DraftV.Given c) f = refl
@@ -249,7 +249,7 @@ pub record OpeningList (z : Settings) (a : ToiAllocator) (id : ℕ) (f : Fdt) : 
   pub tois : f.tois ≡ a
   pub queue : files f ≡ []
   pub slots : (k : ℕ) → slot_at f.slots k ≡ no_slot
-  pub side : state_of f.announcer ≡ record { next_id = id; last = none; waiting = []; current = none }
+  pub side : state_of f.announcer ≡ record { next_id = id; last = None; waiting = []; current = None }
   pub none_waits : f.announcer.waiting ≡ 0
   pub no_current : f.announcer.has_current ≡ false
   pub none_sent : f.announcer.current.life.transferring ≡ false

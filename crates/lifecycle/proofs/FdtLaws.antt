@@ -1,7 +1,7 @@
 -- Laws of the calls of fdt.rt: what a valid list tells of slots and queue, and what each call comes to in each of its cases.
 use mathlib.Core.Path.{◌≡◌, refl, sym, ◌∙◌, ap, subst}
 use mathlib.Core.Bool.{Bool, true, false, not, and-false, ◌&&◌}
-use mathlib.Core.Option.{Option, none, some}
+use Rattle.std.specs.Prelude.{Option, None, Some}
 use mathlib.Core.List.{List, [], ◌∷◌}
 use Prim.Native.Nat.{ℕ, ◌+◌, ◌≤◌, ◌<◌}
 use native.Mathlib.Omega.{arith}
@@ -42,10 +42,10 @@ each_in P [] h = tt
 each_in P (k ∷ l) h = (h k (let r = ap one_if (eq-eqb k k refl) in omega arith), each_in P l (λ j u. h j (omega arith)))
 
 -- what a search said, in the words of its contract
-pub said_some : {r : Place} {o : Option ℕ} {n : ℕ} → place_said r ≡ o → r ≡ At n → o ≡ some n
+pub said_some : {r : Place} {o : Option ℕ} {n : ℕ} → place_said r ≡ o → r ≡ At n → o ≡ Some n
 said_some e q = sym e ∙ ap place_said q
 
-pub said_none : {r : Place} {o : Option ℕ} → place_said r ≡ o → r ≡ Nothing → o ≡ none
+pub said_none : {r : Place} {o : Option ℕ} → place_said r ≡ o → r ≡ Nothing → o ≡ None
 said_none e q = sym e ∙ ap place_said q
 
 -- ---- what a valid list tells
@@ -78,7 +78,7 @@ module _ (f : Fdt) (v : ValidFdt f) where
   sends_room k h e = room k h (subst (λ b. ((slot_at f.slots k).listed && not b) ≡ false) (sym e) (and-false (slot_at f.slots k).listed))
 
   -- what a search of the slots says of the one that it found
-  pub found_slot : (p : Slot → Bool) (k : ℕ) → place p f.slots ≡ some k → (k < object_slots) × (p (slot_at f.slots k) ≡ true)
+  pub found_slot : (p : Slot → Bool) (k : ℕ) → place p f.slots ≡ Some k → (k < object_slots) × (p (slot_at f.slots k) ≡ true)
   found_slot p k e =
       let h = found_first p f.slots k e in
       let g = at_get no_slot f.slots k h.0 h.1.stands in
@@ -94,11 +94,11 @@ module _ (f : Fdt) (v : ValidFdt f) where
       go true b h = absurd (omega arith)
       go false b h = refl
 
-  pub free_found : (k : ℕ) → place is_free f.slots ≡ some k → (k < object_slots) × (f.queued < object_slots)
+  pub free_found : (k : ℕ) → place is_free f.slots ≡ Some k → (k < object_slots) × (f.queued < object_slots)
   free_found k e = let h = found_slot is_free k e in (h.0, room k h.0 (free_waits k h.1))
 
   -- what a search of the queue says of the place that it found
-  pub queue_found : (p : ℕ → Bool) (n : ℕ) → place p (waiting f) ≡ some n → (n < f.queued) × (n < object_slots) × (get_or f.queue n 0 < object_slots)
+  pub queue_found : (p : ℕ → Bool) (n : ℕ) → place p (waiting f) ≡ Some n → (n < f.queued) × (n < object_slots) × (get_or f.queue n 0 < object_slots)
   queue_found p n e =
       let h = found_first p (waiting f) n e in
       let g = at_take f.queue f.queued n h.0 h.1.stands in
@@ -113,11 +113,11 @@ module _ (f : Fdt) (q : Request) (z : Sizes) (t : ℕ) where
   named_unknown h = rw h
 
   module _ (h : has t (Alloc.loose f.tois) ≡ true) where
-    pub named_none : place is_free f.slots ≡ none → named_of f q z t ≡ refuses f Because.Full
+    pub named_none : place is_free f.slots ≡ None → named_of f q z t ≡ refuses f Because.Full
     unfolding named_of
     named_none p = rw (h, p)
 
-    pub named_some : (k : ℕ) → place is_free f.slots ≡ some k
+    pub named_some : (k : ℕ) → place is_free f.slots ≡ Some k
         → named_of f q z t ≡ record { answer = AdmissionV.Toi t; fdt = put_of (with_tois f (Alloc.claimed_of t f.tois).allocator) k t q z }
     unfolding named_of
     named_some k p = rw (h, p)
@@ -132,11 +132,11 @@ allocated_some flag a t = allocated_cases (λ (x : Allocated). x.answer ≡ Numb
     (λ q e. (q, cc)) (λ q e. let z : ◌≡◌ {A = ℕ} 0 1 = cc in absurd (omega arith))
 
 module _ (f : Fdt) (q : Request) (z : Sizes) where
-  pub fresh_none : place is_free f.slots ≡ none → fresh_of f q z ≡ refuses f Because.Full
+  pub fresh_none : place is_free f.slots ≡ None → fresh_of f q z ≡ refuses f Because.Full
   unfolding fresh_of
   fresh_none p = rw p
 
-  module _ (k : ℕ) (p : place is_free f.slots ≡ some k) where
+  module _ (k : ℕ) (p : place is_free f.slots ≡ Some k) where
     pub fresh_full : (Alloc.allocated_of false f.tois).answer ≡ Full → fresh_of f q z ≡ refuses f Because.Full
     unfolding fresh_of
     fresh_full e = rw (p, allocated_full false f.tois e)
@@ -168,20 +168,20 @@ module _ (f : Fdt) (q : Request) (named : Named) where
 -- ---- by number
 
 module _ (t : ℕ) (f : Fdt) where
-  pub transfers_none : place (is_listed_as t) f.slots ≡ none → transfers_of t f ≡ none
+  pub transfers_none : place (is_listed_as t) f.slots ≡ None → transfers_of t f ≡ None
   unfolding transfers_of
   transfers_none p = rw p
 
-  pub removed_none : place (is_listed_as t) f.slots ≡ none → removed_of t f ≡ record { yes = false; fdt = f }
+  pub removed_none : place (is_listed_as t) f.slots ≡ None → removed_of t f ≡ record { yes = false; fdt = f }
   unfolding removed_of
   removed_none p = rw p
 
-  pub triggered_none : (start : Time) → place (is_listed_as t) f.slots ≡ none → triggered_of t start f ≡ record { yes = false; fdt = f }
+  pub triggered_none : (start : Time) → place (is_listed_as t) f.slots ≡ None → triggered_of t start f ≡ record { yes = false; fdt = f }
   unfolding triggered_of
   triggered_none start p = rw p
 
-  module _ (k : ℕ) (p : place (is_listed_as t) f.slots ≡ some k) where
-    pub transfers_some : transfers_of t f ≡ some (slot_at f.slots k).file.life.total
+  module _ (k : ℕ) (p : place (is_listed_as t) f.slots ≡ Some k) where
+    pub transfers_some : transfers_of t f ≡ Some (slot_at f.slots k).file.life.total
     unfolding transfers_of
     transfers_some = rw p
 
@@ -194,11 +194,11 @@ module _ (t : ℕ) (f : Fdt) where
     triggered_sent start e = rw (p, e)
 
     module _ (e : sends (slot_at f.slots k) ≡ false) where
-      pub removed_stays : place (λ j. eqb j k) (waiting f) ≡ none → removed_of t f ≡ record { yes = true; fdt = f }
+      pub removed_stays : place (λ j. eqb j k) (waiting f) ≡ None → removed_of t f ≡ record { yes = true; fdt = f }
       unfolding removed_of
       removed_stays m = rw (p, e, m)
 
-      pub removed_freed : (n : ℕ) → place (λ j. eqb j k) (waiting f) ≡ some n → removed_of t f ≡ record { yes = true; fdt = freed_of f t k n }
+      pub removed_freed : (n : ℕ) → place (λ j. eqb j k) (waiting f) ≡ Some n → removed_of t f ≡ record { yes = true; fdt = freed_of f t k n }
       unfolding removed_of
       removed_freed n m = rw (p, e, m)
 

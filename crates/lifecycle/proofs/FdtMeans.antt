@@ -1,7 +1,7 @@
 -- What each call of fdt.rt means for the layer above: the objects that wait, in order, and the slots in transfer.
 use mathlib.Core.Path.{◌≡◌}
 use mathlib.Core.Bool.{Bool, true, false, not, ◌&&◌, ◌||◌}
-use mathlib.Core.Option.{none, some}
+use Rattle.std.specs.Prelude.{None, Some}
 use mathlib.Core.List.{List, [], ◌∷◌, ◌++◌, map}
 use Prim.Native.Nat.{ℕ, ◌<◌}
 use lib.Dec.{eqb, ltb}
@@ -60,7 +60,7 @@ pub record Listed (t : ℕ) (f : Fdt) (k : ℕ) : Type 0 where
 
 -- the listed objects in the slots of a list
 abbrev pub listed_files : List Slot → List ℕ → List FileDesc
-listed_files s = collect (λ k. when (slot_at s k).listed then some (file_at s k) else none)
+listed_files s = collect (λ k. when (slot_at s k).listed then Some (file_at s k) else None)
 
 -- ---- a change
 
@@ -84,7 +84,7 @@ Numbers NamedV.Anew t a b = (t ≡ a.next) × (a.entered < toi_entries) × (b �
 -- the new object gets number t and slot k, which was free, and stands last in the queue
 pub record Admits (f : Fdt) (q : Request) (z : Sizes) (named : Named) (k t : ℕ) (r : Added) : Type 0 where
   pub answer : r.answer ≡ AdmissionV.Toi t
-  pub found : place is_free f.slots ≡ some k
+  pub found : place is_free f.slots ≡ Some k
   pub free : Free (slot_at f.slots k)
   pub number : Numbers named t f.tois r.fdt.tois
   pub view : Seen f (files f ++ ((new_slot q z t).file ∷ [])) k (new_slot q z t) r.fdt
@@ -163,7 +163,7 @@ pub record Triggers (t : ℕ) (start : Time) (f r : Fdt) : Type 0 where
 
 -- nothing may start; or the first of the queue that may is taken
 pub data Takes (p now : ℕ) (f : Fdt) (r : Taken) : Type 0 where
-  nothing : place (startable_file p now) (files f) ≡ none → r ≡ record { answer = Nothing; fdt = f } → Takes p now f r
+  nothing : place (startable_file p now) (files f) ≡ None → r ≡ record { answer = Nothing; fdt = f } → Takes p now f r
   takes : (n k : ℕ) → Hit (startable_file p now) (files f) n (file_at f.slots k) → Waits f n k → r.answer ≡ At k
       → Seen f (cut (files f) n) k (started_slot now (slot_at f.slots k)) r.fdt → Takes p now f r
 

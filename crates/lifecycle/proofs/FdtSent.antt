@@ -1,7 +1,7 @@
 -- Which slots are in transfer after each call: a take adds one, the end of a transfer takes one away, and no other call changes any.
 use mathlib.Core.Path.{◌≡◌, refl, sym, ◌∙◌, ap, subst}
 use mathlib.Core.Bool.{Bool, true, false, not, ◌&&◌, ◌||◌, false≢true}
-use mathlib.Core.Option.{Option, none, some}
+use Rattle.std.specs.Prelude.{Option, None, Some}
 use mathlib.Core.List.{List}
 use Prim.Native.Nat.{ℕ, ◌+◌}
 use native.Mathlib.Omega.{arith}
@@ -131,8 +131,8 @@ module _ (f : Fdt) where
   publish_sent now c = subst (λ (r : Published). SentSame f r.fdt) (sym (publish_as c f now)) (by (publish_refusal_of c f))
     where
       by : (o : Option Refusal) → SentSame f (published_by c f now o).fdt
-      by (some why) j = refl
-      by none j = announced_sent (queued_of now c f.announcer) j
+      by (Some why) j = refl
+      by None j = announced_sent (queued_of now c f.announcer) j
 
   pub next_fdt_sent : (now : ℕ) (draft : Draft) → SentSame f (next_fdt_of now draft f).fdt
   unfolding next_fdt_of

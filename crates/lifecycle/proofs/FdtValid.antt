@@ -1,7 +1,7 @@
 -- After every call the list is valid again.
 use mathlib.Core.Path.{◌≡◌, refl, sym, ◌∙◌, ap, subst}
 use mathlib.Core.Bool.{true, false, not, ◌&&◌, true≢false}
-use mathlib.Core.Option.{some}
+use Rattle.std.specs.Prelude.{Some}
 use mathlib.Core.List.{[], ◌∷◌, ◌++◌, map}
 use Prim.Native.Nat.{ℕ, zero, suc, ◌+◌, ◌-◌, ◌≤◌, ◌<◌}
 use native.Mathlib.Omega.{arith}
@@ -150,7 +150,7 @@ module _ (f : Fdt) (v : ValidFdt f) where
 
   -- ---- take
 
-  pub valid_taken_at : (now n k : ℕ) → at (waiting f) n ≡ some k → ValidFdt (taken_at now f n k)
+  pub valid_taken_at : (now n k : ℕ) → at (waiting f) n ≡ Some k → ValidFdt (taken_at now f n k)
   unfolding taken_at started_life
   valid_taken_at now n k e =
       let y = slot_at f.slots k in
@@ -237,7 +237,7 @@ module _ (f : Fdt) (v : ValidFdt f) where
       (stays no_slot waits f.slots k new li.inn (waiting f) (waiting f) v.in_queue (λ j. refl) (sym (waits_not y s)))
       (λ m. ap (λ o. times m (Alloc.bound f.tois) + adds m o) (toi_used y (used_sends y s) ∙ sym (toi_used new s)))
 
-  pub valid_freed : (t k n : ℕ) → Listed t f k → at (waiting f) n ≡ some k → ValidFdt (freed_of f t k n)
+  pub valid_freed : (t k n : ℕ) → Listed t f k → at (waiting f) n ≡ Some k → ValidFdt (freed_of f t k n)
   unfolding freed_of
   valid_freed t k n li e =
       let y = slot_at f.slots k in
@@ -262,7 +262,7 @@ module _ (f : Fdt) (v : ValidFdt f) where
 
   -- a free slot takes a new object with a number that the allocator has bound to it
   pub valid_put : (a : ToiAllocator) (k toi : ℕ) (q : Request) (z : Sizes) → Alloc.ValidAllocator a → ((n : ℕ) → times n (Alloc.bound a) ≡ times n (Alloc.bound f.tois) + one_if (eqb toi n))
-      → place is_free f.slots ≡ some k → ValidFdt (put_of (with_tois f a) k toi q z)
+      → place is_free f.slots ≡ Some k → ValidFdt (put_of (with_tois f a) k toi q z)
   unfolding put_of
   valid_put a k toi q z va b e =
       let h = free_at f v k e in

@@ -1,6 +1,6 @@
 -- Laws of the object's record: what its fields say in the definition's words.
 use mathlib.Core.Path.{◌≡◌, refl, sym, ◌∙◌, ap}
-use mathlib.Core.Option.{none, some}
+use Rattle.std.specs.Prelude.{None, Some}
 use native.Mathlib.Numerals.{add-one}
 use mathlib.Core.Bool.{Bool, true, false, not, ◌&&◌}
 use Prim.Native.Nat.{ℕ, suc, ◌+◌, ◌-◌, ◌≤◌, ◌<◌}
@@ -24,7 +24,7 @@ use Rattle.lifecycle.specs.declared.filedesc.Life.{Life}
 
 -- the flag says whether there is a carousel
 repeats_flag : (r : Plan) → repeats (plan_of r) ≡ r.repeats
-repeats_flag r = elim r.repeats as (λ b. given (when b then some (when r.from_start then Def.Carousel.interval r.interval else Def.Carousel.delay r.interval) else none) ≡ b) [ true ↦ refl | false ↦ refl ]
+repeats_flag r = elim r.repeats as (λ b. given (when b then Some (when r.from_start then Def.Carousel.interval r.interval else Def.Carousel.delay r.interval) else None) ≡ b) [ true ↦ refl | false ↦ refl ]
 
 pub repeats_said : (r : Plan) → not (repeats (plan_of r)) ≡ not r.repeats
 repeats_said r = ap not (repeats_flag r)
@@ -78,7 +78,7 @@ and_comm false false = refl
 pub life_started : (r : Plan) (now : ℕ) (x : Life) → life_of (started_life r now x) ≡ Def.started (plan_of r) now (life_of x)
 unfolding started_life Def.started
 life_started r now x =
-    ap (λ b. record { published = x.published; count = when b then 0 else x.count; total = x.total; last_start = some now; last_end = time_of x.last_end; named_start = time_of x.named_start })
+    ap (λ b. record { published = x.published; count = when b then 0 else x.count; total = x.total; last_start = Some now; last_end = time_of x.last_end; named_start = time_of x.named_start })
     (and_comm r.repeats (eqb x.count r.most) ∙ ap (λ b. eqb x.count r.most && b) (sym (repeats_flag r)))
 
 pub life_done : (now : ℕ) (x : Life) → life_of (done_life now x) ≡ Def.finished now (life_of x)
@@ -91,9 +91,9 @@ life_published x = refl
 
 pub life_reset : (t : Time) (x : Life) → life_of (reset_life t x) ≡ Def.triggered (time_of t) (life_of x)
 unfolding reset_life Def.triggered
-life_reset t x = ap (λ f. record { published = x.published; count = x.count; total = x.total; last_start = none; last_end = none; named_start = f }) (start t.known)
+life_reset t x = ap (λ f. record { published = x.published; count = x.count; total = x.total; last_start = None; last_end = None; named_start = f }) (start t.known)
   where
-    start : (b : Bool) → time_of (when b then record { known = b; at = t.at } else x.named_start) ≡ maybe (time_of x.named_start) some (when b then some t.at else none)
+    start : (b : Bool) → time_of (when b then record { known = b; at = t.at } else x.named_start) ≡ maybe (time_of x.named_start) Some (when b then Some t.at else None)
     start true = refl
     start false = refl
 
@@ -122,11 +122,11 @@ pace_view r now l e = go (tested r.paced) (tested r.by_time)
     go (pass p) (pass b) = rw (p, b)
     go (pass p) (fail b) = rw (p, b)
 
-pub ticked_view : (p : Pace) → pace_said (ticked_of p) ≡ maybe none (λ c. some (Def.paced c)) (pace_said p)
+pub ticked_view : (p : Pace) → pace_said (ticked_of p) ≡ maybe None (λ c. Some (Def.paced c)) (pace_said p)
 unfolding ticked_of Def.paced
 ticked_view p = go (tested p.paced)
   where
     go : Tested p.paced
-        → pace_said (when p.paced then record { paced = true; due = when ltb (p.due + p.tick) wide then p.due + p.tick else p.due; tick = p.tick } else p) ≡ maybe none (λ c. some (Def.paced c)) (pace_said p)
+        → pace_said (when p.paced then record { paced = true; due = when ltb (p.due + p.tick) wide then p.due + p.tick else p.due; tick = p.tick } else p) ≡ maybe None (λ c. Some (Def.paced c)) (pace_said p)
     go (fail e) = rw e
     go (pass e) = rw e

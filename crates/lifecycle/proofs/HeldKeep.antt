@@ -1,7 +1,7 @@
 -- What holds of every held object, whatever its life, holds after each call.
 use mathlib.Core.Path.{◌≡◌, refl, sym, ◌∙◌, ap, subst}
 use mathlib.Core.Bool.{Bool, true, false, false≢true}
-use mathlib.Core.Option.{Option, none, some}
+use Rattle.std.specs.Prelude.{Option, None, Some}
 use mathlib.Core.List.{List, [], ◌∷◌, map}
 use Prim.Native.Nat.{ℕ, ◌+◌, ◌≤◌}
 use lib.Dec.{eqb}
@@ -119,8 +119,8 @@ module _ (P : FileDesc → Type 0) (lives : (o : FileDesc) (x : Life) → P o �
   published_held now c = subst (λ (x : Published). EachHeld P x.fdt) (sym (publish_as c f now)) (by (publish_refusal_of c f))
     where
       by : (o : Option Refusal) → EachHeld P (published_by c f now o).fdt
-      by none = marked_held
-      by (some why) = h
+      by None = marked_held
+      by (Some why) = h
 
   pub next_fdt_held : (now : ℕ) (draft : Draft) → EachHeld P (next_fdt_of now draft f).fdt
   unfolding next_fdt_of
@@ -138,7 +138,7 @@ module _ (P : FileDesc → Type 0) (lives : (o : FileDesc) (x : Life) → P o �
     pub added_held : ValidFdt f → ((t : ℕ) → bad_blocks z q.part.size ≡ false → bad_part_of f q.part ≡ false → P (new_slot q z t).file) → EachHeld P (added_of f q named).fdt
     added_held v new = by (added_of f q named) (refusal_view f q named) (added_view f v q named)
       where
-        first_none : (n : Refusal) (b : Bool) {o : Option Refusal} → none ≡ (when b then some n else o) → (b ≡ false) × (none ≡ o)
+        first_none : (n : Refusal) (b : Bool) {o : Option Refusal} → None ≡ (when b then Some n else o) → (b ≡ false) × (None ≡ o)
         first_none n true e = absurd (none≢some e)
         first_none n false e = (refl, e)
 

@@ -1,7 +1,7 @@
 -- Laws of the FDT calls: what they answer, put together from their steps.
 use mathlib.Core.Path.{◌≡◌, refl, sym, ◌∙◌, ap, subst}
 use mathlib.Core.Bool.{Bool, true, false}
-use mathlib.Core.Option.{Option, none, some}
+use Rattle.std.specs.Prelude.{Option, None, Some}
 use mathlib.Core.List.{[], map}
 use Prim.Native.Nat.{ℕ, ◌<◌, ◌≤◌}
 use borrow.Author.Tests.{lt-ltb}
@@ -80,8 +80,8 @@ pub valid_publish : (now : ℕ) (c : Part) (f : Fdt) → ValidFdt f → ValidFdt
 valid_publish now c f v = subst (λ (r : Published). ValidFdt r.fdt) (sym (publish_as c f now)) (by (publish_refusal_of c f) refl)
   where
     by : (o : Option Refusal) → publish_refusal_of c f ≡ o → ValidFdt (published_by c f now o).fdt
-    by (some why) e = v
-    by none e = valid_announced f (queued_of now c f.announcer) (valid_queued f.announcer v.fdts now c (publishable c f e).room) v
+    by (Some why) e = v
+    by None e = valid_announced f (queued_of now c f.announcer) (valid_queued f.announcer v.fdts now c (publishable c f e).room) v
 
 pub valid_next_fdt : (now : ℕ) (draft : Draft) (f : Fdt) → ValidFdt f → ValidFdt (next_fdt_of now draft f).fdt
 unfolding next_fdt_of

@@ -1,6 +1,6 @@
 -- The FDT side as the code has it: what its records mean, and what each function makes of them.
 use Rattle.std.specs.Prelude.{◌≡◌, Bool, true, false, not, ◌&&◌, ◌||◌, List, map, ℕ, ◌+◌, ◌-◌, ◌≤◌, ◌<◌, eqb, ltb, length, get_or, take, set, replicate}
-use Rattle.std.proofs.Math.Option.{Option, none, some}
+use Rattle.std.specs.Prelude.{Option, None, Some}
 use Rattle.sizes.specs.Words.{when◌then◌else◌, maybe, given, any, shut}
 use Rattle.sizes.specs.Limits.{waiting_fdts, largest_fdt_id}
 use Rattle.lifecycle.specs.Parts.{shares, past_store}
@@ -31,17 +31,17 @@ state_of a = record {
   next_id = a.fdtid;
   last = time_of a.last_publish;
   waiting = map instance_of (waiting_of a);
-  current = when a.has_current then some (instance_of a.current) else none;
+  current = when a.has_current then Some (instance_of a.current) else None;
 }
 
 -- a draft may be missing
 abbrev pub draft_given : Draft → Option Part
-draft_given (Given c) = some c
-draft_given Missing = none
+draft_given (Given c) = Some c
+draft_given Missing = None
 
 -- what an answer says; the FDT that starts is the new current one
 unfoldable pub next_told : NextInstance → Def.Next
-next_told r = record { taken = r.taken; state = state_of r.announcer; starts = when r.starts then some (instance_of r.announcer.current) else none }
+next_told r = record { taken = r.taken; state = state_of r.announcer; starts = when r.starts then Some (instance_of r.announcer.current) else None }
 
 -- ---- what holds of it at any time
 

@@ -1,6 +1,6 @@
 -- What each call of fdt.rt makes of the records, and what every call keeps.
 use Rattle.std.specs.Prelude.{◌≡◌, Bool, true, false, not, ◌&&◌, ◌||◌, List, [], ◌∷◌, map, ℕ, ◌+◌, ◌-◌, ◌≤◌, eqb, ltb, leb, length, get_or, take, set, replicate}
-use Rattle.std.proofs.Math.Option.{Option, none, some}
+use Rattle.std.specs.Prelude.{Option, None, Some}
 use Rattle.sizes.specs.Words.{when◌then◌else◌, maybe, given, any, has, place, shut, collect, one_if, times, first_of}
 use Rattle.sizes.specs.Limits.{object_slots, toi_entries, waiting_fdts}
 use Rattle.sizes.specs.declared.refusal.Refusal.{Refusal}
@@ -72,7 +72,7 @@ waits v = v.listed && not (sends v)
 
 -- the numbers of held objects
 abbrev pub used_tois : List Slot → List ℕ
-used_tois = collect (λ (v : Slot). when used v then some v.file.toi else none)
+used_tois = collect (λ (v : Slot). when used v then Some v.file.toi else None)
 
 -- as many hold it as should, and a free one is all zeros
 pub record Tidy (v : Slot) : Type 0 where
@@ -179,11 +179,11 @@ unfoldable pub is_added_of : ℕ → Fdt → Bool
 is_added_of t f = given (listed_place t f)
 
 abbrev pub transfers_said : Transfers → Option ℕ
-transfers_said (Total n) = some n
-transfers_said NotListed = none
+transfers_said (Total n) = Some n
+transfers_said NotListed = None
 
 unfoldable pub transfers_of : ℕ → Fdt → Option ℕ
-transfers_of t f = maybe none (λ k. some (slot_at f.slots k).file.life.total) (listed_place t f)
+transfers_of t f = maybe None (λ k. Some (slot_at f.slots k).file.life.total) (listed_place t f)
 
 -- the slot in transfer, once its object is off the list
 abbrev pub unlisted_slot : Slot → Slot
@@ -272,8 +272,8 @@ publication_said (PublicationV.Refused why) = Alloc.Said.refused why
 
 -- why an add is refused; none where the object was admitted
 abbrev pub refusal : Admission → Option Refusal
-refusal (AdmissionV.Toi t) = none
-refusal (AdmissionV.Refused why) = some why
+refusal (AdmissionV.Toi t) = None
+refusal (AdmissionV.Refused why) = Some why
 
 -- publish, refusals 4, 5 and 7 in their order
 unfoldable pub publish_of : ℕ → Part → Fdt → Published
@@ -285,8 +285,8 @@ publish_of now c f =
 
 -- what the test of a draft says
 abbrev pub draft_said : DraftTest → Option Refusal
-draft_said DraftTestV.Good = none
-draft_said (DraftTestV.Refused why) = some why
+draft_said DraftTestV.Good = None
+draft_said (DraftTestV.Refused why) = Some why
 
 -- a draft of length 0 is none, and is not looked at
 unfoldable pub real_draft : Draft → Draft
@@ -294,7 +294,7 @@ real_draft (DraftV.Given c) = when eqb c.size 0 then DraftV.Missing else DraftV.
 real_draft DraftV.Missing = DraftV.Missing
 
 unfoldable pub draft_test_of : Draft → Fdt → Option Refusal
-draft_test_of DraftV.Missing f = none
+draft_test_of DraftV.Missing f = None
 draft_test_of (DraftV.Given c) f = first_of ((Because.Sizes, bad_blocks f.settings.sizes c.size) ∷ (Because.Part, bad_fdt_of f.settings.fdt_store c f.announcer) ∷ [])
 
 -- the next FDT; a draft that is taken is published, and so marks every listed object

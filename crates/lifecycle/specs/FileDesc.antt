@@ -1,6 +1,6 @@
 -- The object's record as the code has it: what it means, and what each function makes of it.
 use Rattle.std.specs.Prelude.{Bool, true, false, not, ◌&&◌, ℕ, ◌+◌, ◌-◌, min, eqb, ltb}
-use Rattle.std.proofs.Math.Option.{Option, none, some}
+use Rattle.std.specs.Prelude.{Option, None, Some}
 use Rattle.sizes.specs.Words.{when◌then◌else◌}
 use Rattle.sizes.specs.Limits.{wide, largest_count, largest_total}
 use Rattle.sizes.specs.declared.partition.Sizes.{Sizes}
@@ -21,10 +21,10 @@ use Rattle.lifecycle.specs.declared.filedesc.FileDesc.{FileDesc}
 
 -- a time that may be missing
 abbrev pub time_of : Time → Option ℕ
-time_of t = when t.known then some t.at else none
+time_of t = when t.known then Some t.at else None
 
 abbrev pub carousel_of : Plan → Option Def.Carousel
-carousel_of r = when r.repeats then some (when r.from_start then Def.Carousel.interval r.interval else Def.Carousel.delay r.interval) else none
+carousel_of r = when r.repeats then Some (when r.from_start then Def.Carousel.interval r.interval else Def.Carousel.delay r.interval) else None
 
 abbrev pub target_of : Plan → Def.Target
 target_of r = when r.paced then (when r.by_time then Def.Target.by r.target else Def.Target.for r.target) else Def.Target.at_once
@@ -44,13 +44,13 @@ life_of x = record {
 }
 
 abbrev pub pace_said : Pace → Option Def.Pace
-pace_said p = when p.paced then some record { due = p.due; tick = p.tick } else none
+pace_said p = when p.paced then Some record { due = p.due; tick = p.tick } else None
 
 -- what an input names
 abbrev pub carousel_named : Carousel → Option Def.Carousel
-carousel_named Never = none
-carousel_named (Delay d) = some (Def.Carousel.delay d)
-carousel_named (Interval d) = some (Def.Carousel.interval d)
+carousel_named Never = None
+carousel_named (Delay d) = Some (Def.Carousel.delay d)
+carousel_named (Interval d) = Some (Def.Carousel.interval d)
 
 abbrev pub target_named : Target → Def.Target
 target_named AtOnce = Def.Target.at_once

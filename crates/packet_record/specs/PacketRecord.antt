@@ -1,5 +1,5 @@
 -- What a record says of a packet.
-use Rattle.std.proofs.Math.Option.{Option, none, some}
+use Rattle.std.specs.Prelude.{Option, None, Some}
 use Rattle.sizes.specs.Words.{given, maybe}
 use Rattle.definition.specs.FdtSession.{Packet}
 use Rattle.wire.specs.declared.record.Record.{Record}
@@ -22,5 +22,5 @@ record_of p = record {
 
 -- what the answer says
 abbrev pub record_said : PacketRecord → Option Record
-record_said (Fields r) = some r
-record_said NoPacket = none
+record_said (Fields r) = Some r
+record_said NoPacket = None

@@ -3,7 +3,7 @@ use mathlib.Core.Path.{◌≡◌, refl, sym, ap, ◌∙◌}
 use mathlib.Core.Bool.{Bool, true, false}
 use mathlib.Core.List.{List, [], ◌∷◌, ◌++◌, append_assoc, append-nil}
 use mathlib.Core.Logic.{⊎_elim}
-use mathlib.Core.Option.{Option, some, none}
+use Rattle.std.specs.Prelude.{Option, Some, None}
 use Prim.Native.Nat.{ℕ, suc, ◌+◌, ◌-◌, ◌*◌, ◌/◌, ◌%◌, ◌<◌, ◌≤◌}
 use native.Mathlib.Numerals.{add-one}
 use native.Mathlib.Omega.{arith}
@@ -75,7 +75,7 @@ digit_back n h =
     (lt_or_le n 10)
 
 -- bytes that are put in hex read back as the same bytes
-pub hex_back : (l : List ℕ) → Each (λ b. b < 256) l → spelled (hex_of l) ≡ some l
+pub hex_back : (l : List ℕ) → Each (λ b. b < 256) l → spelled (hex_of l) ≡ Some l
 unfolding spelled hex_of byte_text pair_value in_front
 hex_back [] h = refl
 hex_back (b ∷ l) h =
@@ -104,17 +104,17 @@ hex_more bytes i h room p q =
 
 -- bytes in front of what may be spelled behind them
 abbrev pub behind : List ℕ → Option (List ℕ) → Option (List ℕ)
-behind p none = none
-behind p (some l) = some (p ++ l)
+behind p None = None
+behind p (Some l) = Some (p ++ l)
 
 pub nothing_read : (x : Option (List ℕ)) → x ≡ behind [] x
-nothing_read none = refl
-nothing_read (some l) = refl
+nothing_read None = refl
+nothing_read (Some l) = refl
 
 behind_byte : (p : List ℕ) (b : ℕ) (x : Option (List ℕ)) → behind p (in_front (Number b) x) ≡ behind (p ++ (b ∷ [])) x
 unfolding in_front
-behind_byte p b none = refl
-behind_byte p b (some l) = ap some (sym (append_assoc p (b ∷ []) l))
+behind_byte p b None = refl
+behind_byte p b (Some l) = ap Some (sym (append_assoc p (b ∷ []) l))
 
 module _ (w : List ℕ) (i : ℕ) where
   two : 2 * i + 1 < length w →
@@ -136,20 +136,20 @@ module _ (w : List ℕ) (i : ℕ) where
   -- two bytes that are no digits
   pub read_stop : (p : List ℕ) → 2 * i + 1 < length w
       → pair_value (value_of (get_or w (2 * i) 0)) (value_of (get_or w (2 * i + 1) 0)) ≡ Nothing
-      → spelled w ≡ behind p (spelled (drop (2 * i) w)) → spelled w ≡ none
+      → spelled w ≡ behind p (spelled (drop (2 * i) w)) → spelled w ≡ None
   unfolding in_front
   read_stop p h e s = s ∙ ap (behind p) (two h ∙ ap (λ (m : Meant). in_front m (spelled (drop (2 * (i + 1)) w))) e)
 
-  pub read_end : (p : List ℕ) → length w ≤ 2 * i → spelled w ≡ behind p (spelled (drop (2 * i) w)) → spelled w ≡ some p
+  pub read_end : (p : List ℕ) → length w ≤ 2 * i → spelled w ≡ behind p (spelled (drop (2 * i) w)) → spelled w ≡ Some p
   unfolding spelled
-  read_end p h s = s ∙ (rw (drop_of_length-le w h) (ap some (append-nil p)))
+  read_end p h s = s ∙ (rw (drop_of_length-le w h) (ap Some (append-nil p)))
 
-nothing_behind : (m : Meant) → in_front m none ≡ none
+nothing_behind : (m : Meant) → in_front m None ≡ None
 unfolding in_front
 nothing_behind (Number b) = refl
 nothing_behind Nothing = refl
 
-pub odd : (w : List ℕ) → length w % 2 ≡ 1 → spelled w ≡ none
+pub odd : (w : List ℕ) → length w % 2 ≡ 1 → spelled w ≡ None
 unfolding spelled
 odd [] h = let z : ◌≡◌ {A = ℕ} 0 1 = h in absurd (omega arith)
 odd (a ∷ []) h = refl

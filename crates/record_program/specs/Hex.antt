@@ -1,6 +1,6 @@
 -- Bytes in hex: two digits for each byte, the higher one first.
 use Rattle.std.specs.Prelude.{◌≡◌, List, [], ◌∷◌, ◌++◌, ℕ, ◌+◌, ◌-◌, ◌*◌, ◌/◌, ◌%◌, ◌≤◌, ltb, length, take}
-use Rattle.std.proofs.Math.Option.{Option, some, none}
+use Rattle.std.specs.Prelude.{Option, Some, None}
 use Rattle.sizes.specs.Words.{when◌then◌else◌, within}
 use Rattle.record_program.specs.declared.hex.Meant.{Meant}
 use Rattle.record_program.specs.declared.hex.Meant.TheVariants.{Number, Nothing}
@@ -34,20 +34,20 @@ pair_value Nothing b = Nothing
 
 -- a byte in front of what may be spelled behind it
 unfoldable pub in_front : Meant → Option (List ℕ) → Option (List ℕ)
-in_front (Number b) (some l) = some (b ∷ l)
-in_front (Number b) none = none
-in_front Nothing l = none
+in_front (Number b) (Some l) = Some (b ∷ l)
+in_front (Number b) None = None
+in_front Nothing l = None
 
 -- the bytes that digits spell, if they do
 unfoldable pub spelled : List ℕ → Option (List ℕ)
-spelled [] = some []
-spelled (a ∷ []) = none
+spelled [] = Some []
+spelled (a ∷ []) = None
 spelled (a ∷ (b ∷ l)) = in_front (pair_value (value_of a) (value_of b)) (spelled l)
 
 -- what read_hex says of a word: how many bytes of the buffer are those that the word spells; or that it spells none
 abbrev pub spelled_said : List ℕ → Spelled → Option (List ℕ)
-spelled_said out (Bytes n) = some (take n out)
-spelled_said out NoBytes = none
+spelled_said out (Bytes n) = Some (take n out)
+spelled_said out NoBytes = None
 
 abbrev pub Within : List ℕ → Spelled → Type 0
 Within out (Bytes n) = n ≤ length out

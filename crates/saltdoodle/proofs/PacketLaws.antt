@@ -1,7 +1,7 @@
 -- What is told of a packet, case by case: where its payload stands, and its record.
 use mathlib.Core.Path.{◌≡◌, refl, sym, ◌∙◌, ap}
 use mathlib.Core.Bool.{true, false}
-use mathlib.Core.Option.{none, some}
+use Rattle.std.specs.Prelude.{None, Some}
 use mathlib.Core.List.{List}
 use Prim.Native.Nat.{ℕ}
 use lib.ListN.{length, take, drop}
@@ -35,14 +35,14 @@ module _ (n f : ℕ) (s : Sent) (r : PayloadPlace) where
   -- without a packet
   pub of_none : s.sent ≡ false → place_named r ≡ no_place → PayloadTold n f s r
   unfolding place_of
-  of_none e h = placed (λ m a b. h ∙ sym (ap (λ t. place_of m (when t then some (packet_said s.packet) else none)) e))
+  of_none e h = placed (λ m a b. h ∙ sym (ap (λ t. place_of m (when t then Some (packet_said s.packet) else None)) e))
 
   -- with one whose payload stands in the store x of length k
   in_store : (x : Store) (k : ℕ) (m : Stores) → s.sent ≡ true → store_of (packet_said s.packet) ≡ x → length (bytes_of m x) ≡ k
       → place_of m (packet_sent s) ≡ (when past_store k s.packet.symbol.payload then no_place else record { store = x; part = s.packet.symbol.payload })
   unfolding place_of
   in_store x k m e stands long =
-      ap (λ t. place_of m (when t then some (packet_said s.packet) else none)) e
+      ap (λ t. place_of m (when t then Some (packet_said s.packet) else None)) e
       ∙ ap (λ y. when past_store (length (bytes_of m y)) s.packet.symbol.payload then no_place else record { store = y; part = s.packet.symbol.payload }) stands
       ∙ ap (λ j. when past_store j s.packet.symbol.payload then no_place else record { store = x; part = s.packet.symbol.payload }) long
 
@@ -57,12 +57,12 @@ writing_agrees WritingV.Done = refl
 writing_agrees WritingV.Refused = refl
 
 -- a packet's record is written, or refused
-pub with_record : (s : Sent) (r : Record) (a : Writing) (before after : List ℕ) (answer : ℕ) → record_sent s ≡ some r → RecordWrites before r a after → answer ≡ writing_told a → RecordTold s before answer after
+pub with_record : (s : Sent) (r : Record) (a : Writing) (before after : List ℕ) (answer : ℕ) → record_sent s ≡ Some r → RecordWrites before r a after → answer ≡ writing_told a → RecordTold s before answer after
 with_record s r a before after answer e w t = record {
   said = t ∙ writing_agrees a ∙ ap said_told w.answer ∙ sym (ap (maybe (refusal_number Because.Record) (λ x. said_told (write_answer before x))) e);
   buffer = w.buffer ∙ sym (ap (maybe before (write_buffer before)) e);
 }
 
 -- without a packet
-pub without_record : (s : Sent) (before : List ℕ) (answer : ℕ) → record_sent s ≡ none → answer ≡ refusal_number Because.Record → RecordTold s before answer before
+pub without_record : (s : Sent) (before : List ℕ) (answer : ℕ) → record_sent s ≡ None → answer ≡ refusal_number Because.Record → RecordTold s before answer before
 without_record s before answer e t = record { said = t ∙ sym (ap (maybe (refusal_number Because.Record) (λ x. said_told (write_answer before x))) e); buffer = sym (ap (maybe before (write_buffer before)) e) }

@@ -1,6 +1,6 @@
 -- What a host is told of a packet that a run gave: where its payload stands, and its record.
 use Rattle.std.specs.Prelude.{◌≡◌, Bool, false, List, ℕ, length, take, drop}
-use Rattle.std.proofs.Math.Option.{Option, none, some}
+use Rattle.std.specs.Prelude.{Option, None, Some}
 use Rattle.sizes.specs.Partition.{sbn, esi}
 use Rattle.sizes.specs.Words.{when◌then◌else◌, maybe, over}
 use Rattle.sizes.specs.Refusals.{refusal_number}
@@ -25,7 +25,7 @@ use Rattle.saltdoodle.specs.declared.record.PayloadPlace.{PayloadPlace}
 
 -- the packet that was sent, if one was
 abbrev pub packet_sent : Sent → Option Packet
-packet_sent s = when s.sent then some (packet_said s.packet) else none
+packet_sent s = when s.sent then Some (packet_said s.packet) else None
 
 -- what is told of an answer keeps its packet
 abbrev pub PacketKept : Type 0

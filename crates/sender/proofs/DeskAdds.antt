@@ -3,7 +3,7 @@ use Rattle.sizes.specs.declared.refusal.Refusal.TheVariants as Because
 use Rattle.sizes.specs.declared.refusal.Refusal.{Refusal}
 use mathlib.Core.Path.{◌≡◌, refl, sym, ◌∙◌, ap, subst}
 use mathlib.Core.Bool.{Bool, true, false, not, true≢false}
-use mathlib.Core.Option.{Option, some}
+use Rattle.std.specs.Prelude.{Option, Some}
 use mathlib.Core.List.{List, [], ◌∷◌, ◌++◌, map}
 use Prim.Native.Nat.{ℕ, ◌+◌}
 use native.Mathlib.Omega.{arith}
@@ -139,9 +139,9 @@ module _ (o : Object) (named : Named) (s : Sender) (v : ValidSender s) where
       (Def.Answer.number (Def.toi_for (desk_of s) (named_said named)), Def.admitted u (Def.toi_for (desk_of s) (named_said named)) (object_said o) (when given (named_said named) then desk_of s else Def.reserved u (desk_of s)))
 
   step_is : (u : Setup) → Agrees u s → {b : Bool} → any (has_priority o.priority) (working s) ≡ b
-      → Def.step u (desk_of s) call ≡ comes u (when not b then some Because.NoPriority else refusal (added_of s.fdt (request_of o) named).answer)
+      → Def.step u (desk_of s) call ≡ comes u (when not b then Some Because.NoPriority else refusal (added_of s.fdt (request_of o) named).answer)
   unfolding Def.step
-  step_is u a e = ap (comes u) (add_refusal_view u s a v o named ∙ ap (λ b. when not b then some Because.NoPriority else refusal (added_of s.fdt (request_of o) named).answer) e)
+  step_is u a e = ap (comes u) (add_refusal_view u s a v o named ∙ ap (λ b. when not b then Some Because.NoPriority else refusal (added_of s.fdt (request_of o) named).answer) e)
 
   -- what the list makes of it is what the definition says
   list_means : (u : Setup) → Agrees u s → (r : Added) → ListAdds s.fdt (request_of o) (own_of o.own s.fdt.settings.sizes) named r → ObjectsOnly s.fdt r.fdt

@@ -3,7 +3,7 @@ use Rattle.sizes.specs.declared.refusal.Refusal.{Refusal}
 use Rattle.sizes.specs.declared.refusal.Refusal.TheVariants as Because
 use mathlib.Core.Path.{◌≡◌, refl, sym, ◌∙◌, ap, subst}
 use mathlib.Core.Bool.{Bool, true, false, ◌||◌}
-use mathlib.Core.Option.{Option, none, some}
+use Rattle.std.specs.Prelude.{Option, None, Some}
 use mathlib.Core.List.{[], ◌∷◌}
 use Prim.Native.Nat.{ℕ}
 use lib.ListN.{get_or}
@@ -189,15 +189,15 @@ draft_view draft = sym (real_given draft)
 -- it is refused for the same
 refusal_view : (u : Setup) (s : Sender) → Agrees u s → (draft : Draft) → Def.draft_refusal u (desk_of s).fdt (draft_given draft) ≡ draft_test_of (real_draft draft) s.fdt
 unfolding Def.draft_refusal desk_of
-refusal_view u s g draft = ap (maybe none said) (draft_view draft) ∙ by (draft_given (real_draft draft)) ∙ sym (draft_test_as (real_draft draft) s.fdt)
+refusal_view u s g draft = ap (maybe None said) (draft_view draft) ∙ by (draft_given (real_draft draft)) ∙ sym (draft_test_as (real_draft draft) s.fdt)
   where
     said : Part → Option Refusal
     said c = first_of ((Because.Sizes, bad_blocks u.sizes c.size) ∷ (Because.Part, bad_fdt_part u (state_of s.fdt.announcer) c) ∷ [])
 
-    by : (o : Option Part) → maybe none said o
-        ≡ maybe none (λ (c : Part). first_of ((Because.Sizes, bad_blocks s.fdt.settings.sizes c.size) ∷ (Because.Part, bad_fdt_of s.fdt.settings.fdt_store c s.fdt.announcer) ∷ [])) o
-    by none = refl
-    by (some c) = λ i. first_of ((Because.Sizes, bad_blocks (g.sizes i) c.size) ∷ (Because.Part, sym (bad_said c u s.fdt.settings.fdt_store s.fdt.announcer g.fdt_store) i) ∷ [])
+    by : (o : Option Part) → maybe None said o
+        ≡ maybe None (λ (c : Part). first_of ((Because.Sizes, bad_blocks s.fdt.settings.sizes c.size) ∷ (Because.Part, bad_fdt_of s.fdt.settings.fdt_store c s.fdt.announcer) ∷ [])) o
+    by None = refl
+    by (Some c) = λ i. first_of ((Because.Sizes, bad_blocks (g.sizes i) c.size) ∷ (Because.Part, sym (bad_said c u s.fdt.settings.fdt_store s.fdt.announcer g.fdt_store) i) ∷ [])
 
 -- ---- the call
 
@@ -227,7 +227,7 @@ valid_stands : (s : Sender) → ValidSender s → FdtStands s.fdt s.window s.fdt
 valid_stands s v = record { busy = v.fdt_busy; idle = v.fdt_idle }
 
 -- it may be run with a draft that passes the test
-pub tries_ready : (s : Sender) (draft : Draft) → ValidSender s → draft_test_of (real_draft draft) s.fdt ≡ none → FdtTries s.fdt s.window (real_draft draft) s.fdt_session
+pub tries_ready : (s : Sender) (draft : Draft) → ValidSender s → draft_test_of (real_draft draft) s.fdt ≡ None → FdtTries s.fdt s.window (real_draft draft) s.fdt_session
 tries_ready s draft v e =
     stands_tries s.fdt s.window (real_draft draft) s.fdt_session v.fdt_holds v.narrow (draft_looked (real_draft draft) s.fdt v.fdt_store e) (valid_stands s v)
 
@@ -236,7 +236,7 @@ module _ (s : Sender) (now : ℕ) (draft : Draft) (v : ValidSender s) where
   abbrev runs : FdtTurn
   runs = fdt_ran_of s.window now (real_draft draft) s.fdt s.fdt_session
 
-  module _ (e : draft_test_of (real_draft draft) s.fdt ≡ none) where
+  module _ (e : draft_test_of (real_draft draft) s.fdt ≡ None) where
     runs_means : (u : Setup) → SetFor u s.window s.fdt.settings → FdtTurns s.window s.fdt (fdt_run u now (draft_given (real_draft draft)) (desk_of s).fdt) runs
     unfolding desk_of
     runs_means u set = fdt_ran_means u s.window now (real_draft draft) s.fdt s.fdt_session set (tries_ready s draft v e) (valid_stands s v)
@@ -257,7 +257,7 @@ module _ (s : Sender) (now : ℕ) (draft : Draft) (v : ValidSender s) where
               (ran_matched s.window now (real_draft draft) s.fdt s.fdt_session v.holds.valid v.matched);
         }
 
-  run_refused : (why : Refusal) → draft_test_of (real_draft draft) s.fdt ≡ some why → Kept s (Def.Call.run_fdt now (draft_given draft)) (Def.Answer.refused why) s
+  run_refused : (why : Refusal) → draft_test_of (real_draft draft) s.fdt ≡ Some why → Kept s (Def.Call.run_fdt now (draft_given draft)) (Def.Answer.refused why) s
   unfolding Def.step
   run_refused why e = record {
     means = λ u g. (λ i. Def.unless ((refusal_view u s g draft ∙ e) i) (desk_of s) (Def.fdt_ran u now (Def.draft_of (draft_given draft)) (desk_of s)));
@@ -273,5 +273,5 @@ run_fdt_kept s now draft v = by (draft_test_of (real_draft draft) s.fdt) refl
   where
     by : (o : Option Refusal) → draft_test_of (real_draft draft) s.fdt ≡ o
         → (let r = fdt_running_by now (real_draft draft) s o in Kept s (Def.Call.run_fdt now (draft_given draft)) (fdt_answer r.taken r.answer) r.sender)
-    by none e = run_done s now draft v e
-    by (some why) e = run_refused s now draft v why e
+    by None e = run_done s now draft v e
+    by (Some why) e = run_refused s now draft v why e

@@ -3,7 +3,7 @@ use Rattle.sizes.specs.declared.refusal.Refusal.{Refusal}
 use Rattle.sizes.specs.declared.refusal.Refusal.TheVariants as Because
 use mathlib.Core.Path.{◌≡◌, refl, sym, ◌∙◌, ap, subst}
 use mathlib.Core.Bool.{Bool, true, false, ◌||◌}
-use mathlib.Core.Option.{Option, none, some}
+use Rattle.std.specs.Prelude.{Option, None, Some}
 use mathlib.Core.List.{[], ◌∷◌, map}
 use Prim.Native.Nat.{ℕ, ◌<◌}
 use lib.Dec.{eqb, leb}
@@ -105,7 +105,7 @@ refusal_view u s v g c = λ i. first_of
     ∷ [])
 
 module _ (s : Sender) (now : ℕ) (c : Part) (v : ValidSender s) where
-  publish_refused : (n : Refusal) → ((u : Setup) → Agrees u s → Def.publish_refusal u (desk_of s).fdt c ≡ some n) → Kept s (Def.Call.publish now c) (Def.Answer.refused n) s
+  publish_refused : (n : Refusal) → ((u : Setup) → Agrees u s → Def.publish_refusal u (desk_of s).fdt c ≡ Some n) → Kept s (Def.Call.publish now c) (Def.Answer.refused n) s
   unfolding Def.step
   publish_refused n h = record {
     means = λ u g. ap (λ o. Def.unless o (desk_of s) (Def.Answer.done, Def.all_published (Def.with_fdt (desk_of s) (fdt_published now c (desk_of s).fdt)))) (h u g);
@@ -113,7 +113,7 @@ module _ (s : Sender) (now : ℕ) (c : Part) (v : ValidSender s) where
     valid = v;
   }
 
-  publish_done : ((u : Setup) → Agrees u s → Def.publish_refusal u (desk_of s).fdt c ≡ none) → s.fdt.announcer.waiting < waiting_fdts
+  publish_done : ((u : Setup) → Agrees u s → Def.publish_refusal u (desk_of s).fdt c ≡ None) → s.fdt.announcer.waiting < waiting_fdts
       → Holds (with_published s.fdt (queued_of now c s.fdt.announcer)) → FdtHolds (with_published s.fdt (queued_of now c s.fdt.announcer))
       → Kept s (Def.Call.publish now c) Def.Answer.done (with_list s (with_published s.fdt (queued_of now c s.fdt.announcer)))
   unfolding Def.step fdt_published desk_of
@@ -140,5 +140,5 @@ module _ (s : Sender) (now : ℕ) (c : Part) (v : ValidSender s) where
       Goes r = Holds r.fdt → FdtHolds r.fdt → Kept s (Def.Call.publish now c) (alloc_answer (publication_said r.answer)) (with_list s r.fdt)
 
       by : (o : Option Refusal) → publish_refusal_of c s.fdt ≡ o → Goes (published_by c s.fdt now o)
-      by (some why) e a b = publish_refused why (λ u g. refusal_view u s v g c ∙ e)
-      by none e a b = publish_done (λ u g. refusal_view u s v g c ∙ e) (publishable c s.fdt e).room a b
+      by (Some why) e a b = publish_refused why (λ u g. refusal_view u s v g c ∙ e)
+      by None e a b = publish_done (λ u g. refusal_view u s v g c ∙ e) (publishable c s.fdt e).room a b

@@ -2,7 +2,7 @@
 use Rattle.sizes.specs.declared.refusal.Refusal.TheVariants as Because
 use mathlib.Core.Path.{◌≡◌, refl, sym, ◌∙◌, ap}
 use mathlib.Core.Bool.{Bool, true, false, not, ◌&&◌, ◌||◌}
-use mathlib.Core.Option.{some}
+use Rattle.std.specs.Prelude.{Some}
 use mathlib.Core.List.{[], ◌∷◌}
 use Prim.Native.Nat.{ℕ}
 use lib.Dec.{eqb, leb}
@@ -76,7 +76,7 @@ no_room_view s v NamedV.Anew = λ i. full_slots s v i || full_view s v i
 -- the table: 2, and then the list's own
 pub add_refusal_view : (u : Setup) (s : Sender) → Agrees u s → ValidSender s → (o : Object) (named : Named)
     → Def.add_refusal u (desk_of s) (named_said named) (object_said o)
-    ≡ (when not (any (has_priority o.priority) (working s)) then some Because.NoPriority else refusal (added_of s.fdt (request_of o) named).answer)
+    ≡ (when not (any (has_priority o.priority) (working s)) then Some Because.NoPriority else refusal (added_of s.fdt (request_of o) named).answer)
 unfolding Def.add_refusal desk_of request_of
 add_refusal_view u s a v o named =
     (λ i. first_of
@@ -87,4 +87,4 @@ add_refusal_view u s a v o named =
     ∷ (Because.NotLoose, not_loose_view s named i)
     ∷ (Because.Full, no_room_view s v named i)
     ∷ []))
-    ∙ ap (λ r. when not (any (has_priority o.priority) (working s)) then some Because.NoPriority else r) (sym (refusal_view s.fdt (request_of o) named))
+    ∙ ap (λ r. when not (any (has_priority o.priority) (working s)) then Some Because.NoPriority else r) (sym (refusal_view s.fdt (request_of o) named))

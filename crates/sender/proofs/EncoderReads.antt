@@ -1,7 +1,7 @@
 -- A read of the encoder is the definition's read.
 use mathlib.Core.Path.{◌≡◌, refl, sym, ◌∙◌, ap, subst}
 use mathlib.Core.Bool.{Bool, true, false, not, ◌&&◌, ◌||◌, and-false}
-use mathlib.Core.Option.{Option, none, some}
+use Rattle.std.specs.Prelude.{Option, None, Some}
 use mathlib.Core.List.{List, [], ◌∷◌}
 use Prim.Native.Nat.{ℕ, zero, suc, ◌+◌, ◌≤◌, ◌<◌}
 use native.Mathlib.Omega.{arith}
@@ -54,7 +54,7 @@ module _ (k : ℕ) (force : Bool) where
 
   -- a block is drained and leaves, or gives a symbol
   abbrev chosen : ℕ → Content → Def.Encoder → ℕ → Def.Open → Bool → Option Def.Symbol × Def.Encoder
-  chosen w c y i o b = when b then visits w c (Def.without y i) else (some (Def.symbol_of c.part c.sizes force o (Def.advanced y i o)), Def.advanced y i o)
+  chosen w c y i o b = when b then visits w c (Def.without y i) else (Some (Def.symbol_of c.part c.sizes force o (Def.advanced y i o)), Def.advanced y i o)
 
   -- the block to visit has been looked up
   abbrev looked : ℕ → Content → Def.Encoder → ℕ → Option Def.Open → Option Def.Symbol × Def.Encoder
@@ -88,7 +88,7 @@ module _ (k : ℕ) (force : Bool) where
       turn_free : stuck x ≡ false → Turns x
       turn_free e =
           turn_some false (free_visited x h e)
-          ∙ sym (λ i. (some (symbol_view x v h force i), moved_view x v h force i))
+          ∙ sym (λ i. (Some (symbol_view x v h force i), moved_view x v h force i))
           ∙ ap said (sym (emitted_some force x (ne_eqb x.filled 0 (λ q. absurd (omega arith)))))
           ∙ ap (λ y. said (emitted_of force y)) (sym (settled_end x e (drained_count x)))
 
@@ -144,7 +144,7 @@ emitted_goes force x v s = if_on (λ (r : Read). Goes x r.encoder) (eqb x.filled
 
 module _ (force : Bool) (x : BlockEncoder) where
   -- after a forced read there is nothing
-  read_stopped : x.stopped ≡ true → read_said force x ≡ (none, encoder_of x)
+  read_stopped : x.stopped ≡ true → read_said force x ≡ (None, encoder_of x)
   unfolding Def.read
   read_stopped e = rw e
 

@@ -1,7 +1,7 @@
 -- What a run of the FDT session means in the definition's words.
 use mathlib.Core.Path.{◌≡◌, refl}
 use mathlib.Core.Bool.{true, false, false≢true}
-use mathlib.Core.Option.{Option, none, some}
+use Rattle.std.specs.Prelude.{Option, None, Some}
 use Prim.Native.Nat.{ℕ, ◌≤◌}
 use Rattle.sizes.specs.Limits.{largest_window}
 use Rattle.lifecycle.specs.Setup.{Setup}
@@ -45,9 +45,9 @@ pub record SetFor (u : Setup) (w : ℕ) (z : Settings) : Type 0 where
 
 -- the packet of an answer, for the FDT with this id
 abbrev pub fdt_packet_said : ℕ → Outcome → Option Packet
-fdt_packet_said id Idle = none
-fdt_packet_said id (Sent s) = some record { id = some id; toi = 0; symbol = symbol_said s }
-fdt_packet_said id Over = none
+fdt_packet_said id Idle = None
+fdt_packet_said id (Sent s) = Some record { id = Some id; toi = 0; symbol = symbol_said s }
+fdt_packet_said id Over = None
 
 -- what a run comes to
 abbrev pub fdt_turn_of : FdtTurn → Def.FdtTurn

@@ -1,6 +1,6 @@
 -- Laws of the FDT session: every call keeps FdtHolds, and what a round of the session comes to in each of its cases.
 use mathlib.Core.Path.{◌≡◌, refl, sym, ◌∙◌, ap, subst}
-use mathlib.Core.Option.{Option, none, some}
+use Rattle.std.specs.Prelude.{Option, None, Some}
 use mathlib.Core.List.{[], ◌∷◌}
 use mathlib.Core.Bool.{Bool, true, false, ◌||◌, true≢false, false≢true}
 use Prim.Native.Nat.{ℕ, ◌+◌, ◌≤◌, ◌<◌}
@@ -61,11 +61,11 @@ parts_set f r v s p = parts_hold r v (subst (λ (z : Settings). EachFdt (GoodPar
 pub fdt_holds_over : (f r : Fdt) → FdtHolds f → ValidFdt r → r.settings ≡ f.settings → r.announcer ≡ f.announcer → FdtHolds r
 fdt_holds_over f r h v s a = parts_set f r v s (subst (EachFdt (GoodPart f.settings.sizes)) (sym a) (holds_parts f h))
 
-draft_good : (z : Sizes) (draft : Draft) → GoodDraft z draft → (c : Part) → draft_given draft ≡ some c → GoodPart z c
+draft_good : (z : Sizes) (draft : Draft) → GoodDraft z draft → (c : Part) → draft_given draft ≡ Some c → GoodPart z c
 draft_good z Missing g c e = absurd (none≢some e)
 draft_good z (Given d) g c e = subst (GoodPart z) (some_one e) g
   where
-    some_one : {A : Type 0} {a b : A} → some a ≡ some b → a ≡ b
+    some_one : {A : Type 0} {a b : A} → Some a ≡ Some b → a ≡ b
     some_one e = cc
 
 pub fdt_holds_next : (now : ℕ) (draft : Draft) (f : Fdt) → FdtHolds f → GoodDraft f.settings.sizes draft → FdtHolds (next_fdt_of now draft f).fdt
@@ -82,11 +82,11 @@ stored : (store : ℕ) (c : Part) (a : Announcer) → store ≤ longest_store �
 stored store c a n e = let h = fdt_lies_in store c a e in omega arith
 
 -- a draft that passes the test is good
-pub draft_looked : (draft : Draft) (f : Fdt) → f.settings.fdt_store ≤ longest_store → draft_test_of draft f ≡ none → GoodDraft f.settings.sizes draft
+pub draft_looked : (draft : Draft) (f : Fdt) → f.settings.fdt_store ≤ longest_store → draft_test_of draft f ≡ None → GoodDraft f.settings.sizes draft
 draft_looked Missing f n e = tt
 draft_looked (Given c) f n e = passed (bad_blocks f.settings.sizes c.size) (bad_fdt_of f.settings.fdt_store c f.announcer) refl refl (sym (draft_test_as (Given c) f) ∙ e)
   where
-    passed : (a b : Bool) → bad_blocks f.settings.sizes c.size ≡ a → bad_fdt_of f.settings.fdt_store c f.announcer ≡ b → first_of ((Because.Sizes, a) ∷ (Because.Part, b) ∷ []) ≡ none → GoodPart f.settings.sizes c
+    passed : (a b : Bool) → bad_blocks f.settings.sizes c.size ≡ a → bad_fdt_of f.settings.fdt_store c f.announcer ≡ b → first_of ((Because.Sizes, a) ∷ (Because.Part, b) ∷ []) ≡ None → GoodPart f.settings.sizes c
     passed true b p q e = absurd (none≢some (sym e))
     passed false true p q e = absurd (none≢some (sym e))
     passed false false p q e = record { sizes = p; fits = stored f.settings.fdt_store c f.announcer n q }
@@ -96,8 +96,8 @@ pub fdt_holds_published : (now : ℕ) (c : Part) (f : Fdt) → f.settings.fdt_st
 fdt_holds_published now c f n h = parts_hold (publish_of now c f).fdt (valid_publish now c f h.valid) (subst (λ (r : Published). Parts r.fdt) (sym (publish_as c f now)) (by (publish_refusal_of c f) refl))
   where
     by : (o : Option Refusal) → publish_refusal_of c f ≡ o → Parts (published_by c f now o).fdt
-    by (some why) e = holds_parts f h
-    by none e =
+    by (Some why) e = holds_parts f h
+    by None e =
         let k = publishable c f e in
         queued_each (GoodPart f.settings.sizes) f.announcer (holds_parts f h) now c h.valid.fdts k.room (record { sizes = k.sizes; fits = stored f.settings.fdt_store c f.announcer n k.part })
 

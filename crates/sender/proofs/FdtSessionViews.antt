@@ -1,7 +1,7 @@
 -- A run of the FDT session is the definition's; what it leaves in hand, and what it marks.
 use mathlib.Core.Path.{◌≡◌, refl, sym, ◌∙◌, ap, subst}
 use mathlib.Core.Bool.{Bool, true, false, ◌||◌, true≢false, false≢true}
-use mathlib.Core.Option.{Option, none, some}
+use Rattle.std.specs.Prelude.{Option, None, Some}
 use mathlib.Core.List.{List}
 use Prim.Native.Nat.{ℕ, ◌≤◌}
 use Rattle.sizes.specs.Words.{when◌then◌else◌, given}
@@ -46,13 +46,13 @@ record Reached (g : Fdt) (taken : Bool) (f : Fdt) : Type 0 where
   same : SameObjects g f
 
 -- once the FDT's transfer has ended
-done_view : (now : ℕ) (f : Fdt) → fdt_of (fdt_done_of now f) fdt_idle_of ≡ record { state = DefState.fdt_done now (state_of f.announcer); hand = none }
-done_view now f = ap (λ s. record { state = s; hand = none }) (ap state_of (fdt_done_side now f) ∙ state_done now f.announcer)
+done_view : (now : ℕ) (f : Fdt) → fdt_of (fdt_done_of now f) fdt_idle_of ≡ record { state = DefState.fdt_done now (state_of f.announcer); hand = None }
+done_view now f = ap (λ s. record { state = s; hand = None }) (ap state_of (fdt_done_side now f) ∙ state_done now f.announcer)
 
 -- ---- the next FDT
 
 -- a draft that was taken is not there any more
-draft_left : (draft : Draft) (taken : Bool) → draft_given (left_of draft taken) ≡ (when taken then none else draft_given draft)
+draft_left : (draft : Draft) (taken : Bool) → draft_given (left_of draft taken) ≡ (when taken then None else draft_given draft)
 draft_left draft true = refl
 draft_left draft false = refl
 
@@ -70,7 +70,7 @@ abbrev begins : ℕ → Sizes → FdtSession → Announcer → Bool → FdtSessi
 begins w z x a b = when b then fdt_begun_of w a.current.id a.current.part z else x
 
 begins_hand : (w : ℕ) (z : Sizes) (x : FdtSession) (a : Announcer) (b : Bool) → x.busy ≡ false
-    → fdt_hand_of (begins w z x a b) ≡ Def.fdt_begun (when b then some (instance_of a.current) else none)
+    → fdt_hand_of (begins w z x a b) ≡ Def.fdt_begun (when b then Some (instance_of a.current) else None)
 unfolding fdt_begun_of new_of
 begins_hand w z x a true e = refl
 begins_hand w z x a false e = rw e
@@ -101,8 +101,8 @@ module _ (u : Setup) (w now : ℕ) (f : Fdt) (set : SetFor u w f.settings) (h : 
   asked_state : state_of (next_fdt_of now draft f).fdt.announcer ≡ asked.state
   asked_state = ap state_of (next_fdt_side now draft f) ∙ Laws.next_state f.announcer h.valid.fdts u (fdt_plan_of f.settings.from_start f.settings.interval) f.settings.validity now draft set.validity planned
 
-  asked_starts : (when (next_fdt_of now draft f).starts then some (instance_of (next_fdt_of now draft f).fdt.announcer.current) else none) ≡ asked.starts
-  asked_starts = (λ i. when next_fdt_starts now draft f i then some (instance_of (next_fdt_side now draft f i).current) else none)
+  asked_starts : (when (next_fdt_of now draft f).starts then Some (instance_of (next_fdt_of now draft f).fdt.announcer.current) else None) ≡ asked.starts
+  asked_starts = (λ i. when next_fdt_starts now draft f i then Some (instance_of (next_fdt_side now draft f i).current) else None)
       ∙ Laws.next_starts f.announcer h.valid.fdts u (fdt_plan_of f.settings.from_start f.settings.interval) f.settings.validity now draft set.validity planned
 
 -- ---- a round
@@ -130,12 +130,12 @@ module _ (u : Setup) (w now : ℕ) (g : Fdt) (set : SetFor u w g.settings) where
 
       -- both rounds, by whether an FDT is in hand
       P : Bool → Type 0
-      P b = FdtRounds w g (Def.fdt_round_with u now taken (state_of f.announcer) (when b then some handed else none))
+      P b = FdtRounds w g (Def.fdt_round_with u now taken (state_of f.announcer) (when b then Some handed else None))
           (when b then fdt_sent_by now taken f x r.encoder r.answer else record { taken = taken; answer = Idle; fdt = f; session = x })
 
       -- the definition's, by what is read
       round_by : Option DefEncoder.Symbol × DefEncoder.Encoder → Def.FdtRound
-      round_by z = elim z.0 [ none ↦ Def.FdtRound.again taken (record { state = DefState.fdt_done now (state_of f.announcer); hand = none }) | some y ↦ Def.FdtRound.over (Def.fdt_sent taken (state_of f.announcer) handed z.1 y) ]
+      round_by z = elim z.0 [ None ↦ Def.FdtRound.again taken (record { state = DefState.fdt_done now (state_of f.announcer); hand = None }) | Some y ↦ Def.FdtRound.over (Def.fdt_sent taken (state_of f.announcer) handed z.1 y) ]
 
       reads : x.busy ≡ true → Reads false x.encoder r → FdtInHand f w x → (a : Emitted) → FdtRounds w g (round_by (emitted_said a, encoder_of r.encoder)) (fdt_sent_by now taken f x r.encoder a)
       reads b m h EmittedV.Nothing = subst (λ d. FdtRounds w g (Def.FdtRound.again taken d) (record { taken = taken; answer = Over; fdt = fdt_done_of now f; session = fdt_idle_of })) (done_view now f)
@@ -143,8 +143,8 @@ module _ (u : Setup) (w now : ℕ) (g : Fdt) (set : SetFor u w g.settings) where
       reads b m h (EmittedV.One s) = sent (record {
         view = λ i. record {
           taken = taken;
-          packet = some record { id = some x.id; toi = 0; symbol = symbol_said s };
-          fdt = record { state = state_of f.announcer; hand = when sym b i then some record { id = x.id; part = (sym m.content i).part; encoder = encoder_of r.encoder } else none };
+          packet = Some record { id = Some x.id; toi = 0; symbol = symbol_said s };
+          fdt = record { state = state_of f.announcer; hand = when sym b i then Some record { id = x.id; part = (sym m.content i).part; encoder = encoder_of r.encoder } else None };
         };
         holds = re.holds;
         stands = record {
@@ -157,7 +157,7 @@ module _ (u : Setup) (w now : ℕ) (g : Fdt) (set : SetFor u w g.settings) where
 
       go : Tested x.busy → P x.busy
       go (fail b) = subst P (sym b) (waits (record {
-        view = λ i. record { taken = taken; packet = none; fdt = record { state = state_of f.announcer; hand = when sym b i then some handed else none } };
+        view = λ i. record { taken = taken; packet = None; fdt = record { state = state_of f.announcer; hand = when sym b i then Some handed else None } };
         holds = re.holds;
         stands = st;
         slots = re.slots;
@@ -197,7 +197,7 @@ module _ (u : Setup) (w now : ℕ) (g : Fdt) (set : SetFor u w g.settings) where
     abbrev after_next : Option Part → Bool × Def.Fdt
     after_next o = let d = DefState.next_fdt u now o (state_of f.announcer) in (taken || d.taken, record { state = d.state; hand = Def.fdt_begun d.starts })
 
-    next_same : x.busy ≡ false → (taken || n.taken, fdt_of n.fdt y) ≡ after_next (when taken then none else draft_given draft)
+    next_same : x.busy ≡ false → (taken || n.taken, fdt_of n.fdt y) ≡ after_next (when taken then None else draft_given draft)
     next_same b =
         (λ i. (
           taken || asked_taken u w now f set_here re.holds (left_of draft taken) i,
@@ -218,7 +218,7 @@ module _ (u : Setup) (w now : ℕ) (g : Fdt) (set : SetFor u w g.settings) where
 
         -- both rounds, by whether an FDT is in hand
         P : Bool → Type 0
-        P b = FdtRounds w g (round_by (when given (when b then fdt_hand_of (record { busy = true; id = x.id; encoder = x.encoder }) else none) then (taken, fdt_of f x) else after_next (when taken then none else draft_given draft)))
+        P b = FdtRounds w g (round_by (when given (when b then fdt_hand_of (record { busy = true; id = x.id; encoder = x.encoder }) else None) then (taken, fdt_of f x) else after_next (when taken then None else draft_given draft)))
             (when b then fdt_sent_of now taken f x else fdt_sent_of now (taken || n.taken) n.fdt y)
 
         go : Tested x.busy → P x.busy

@@ -1,7 +1,7 @@
 -- The payload of a run's answer, case by case.
 use mathlib.Core.Path.{◌≡◌, refl, sym, ◌∙◌, ap}
 use mathlib.Core.Bool.{true, false}
-use mathlib.Core.Option.{none, some}
+use Rattle.std.specs.Prelude.{None, Some}
 use mathlib.Core.List.{[]}
 use Prim.Native.Nat.{◌+◌, ◌-◌}
 use native.Mathlib.Omega.{arith}
@@ -26,11 +26,11 @@ no_packet m (RunV.Refused why) h = refl
 module _ (p : Packet) where
   pub of_fdt : p.is_fdt ≡ true → store_of (packet_said p) ≡ Store.fdts
   unfolding store_of
-  of_fdt e = ap (λ b. maybe Store.objects (λ id. Store.fdts) (when b then some p.fdt_id else none)) e
+  of_fdt e = ap (λ b. maybe Store.objects (λ id. Store.fdts) (when b then Some p.fdt_id else None)) e
 
   pub of_object : p.is_fdt ≡ false → store_of (packet_said p) ≡ Store.objects
   unfolding store_of
-  of_object e = ap (λ b. maybe Store.objects (λ id. Store.fdts) (when b then some p.fdt_id else none)) e
+  of_object e = ap (λ b. maybe Store.objects (λ id. Store.fdts) (when b then Some p.fdt_id else None)) e
 
 -- a packet whose payload stands in the store s
 module _ (m : Stores) (a : RunAnswer) (p : Packet) (s : Store) (said : a ≡ RunV.Packet p) (stands : store_of (packet_said p) ≡ s) where

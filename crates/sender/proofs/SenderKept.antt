@@ -2,7 +2,7 @@
 use Rattle.sizes.specs.declared.refusal.Refusal.TheVariants as Because
 use mathlib.Core.Path.{◌≡◌, refl, sym, ◌∙◌, ap, subst}
 use mathlib.Core.Bool.{true, false, true≢false}
-use mathlib.Core.Option.{none}
+use Rattle.std.specs.Prelude.{None}
 use mathlib.Core.List.{List, [], ◌∷◌}
 use Prim.Native.Nat.{ℕ, zero, suc, ◌<◌, ◌≤◌}
 use native.Mathlib.Omega.{arith}
@@ -161,10 +161,10 @@ fdt_ran_sender s r = record {
   sender = record { fdt = r.fdt; window = s.window; count = s.count; sessions = s.sessions; fdt_session = r.session };
 }
 
-pub looked_at : (draft : Draft) (s : Sender) (t : DraftTest) → draft_said t ≡ draft_test_of (real_draft draft) s.fdt → given (draft_said t) ≡ false → draft_test_of (real_draft draft) s.fdt ≡ none
+pub looked_at : (draft : Draft) (s : Sender) (t : DraftTest) → draft_said t ≡ draft_test_of (real_draft draft) s.fdt → given (draft_said t) ≡ false → draft_test_of (real_draft draft) s.fdt ≡ None
 looked_at draft s t e g = sym e ∙ given_none (draft_said t) g
 
-pub fdt_goes : (now : ℕ) (draft : Draft) (s : Sender) → draft_test_of (real_draft draft) s.fdt ≡ none
+pub fdt_goes : (now : ℕ) (draft : Draft) (s : Sender) → draft_test_of (real_draft draft) s.fdt ≡ None
     → fdt_running_of now draft s ≡ fdt_ran_sender s (fdt_ran_of s.window now (real_draft draft) s.fdt s.fdt_session)
 unfolding fdt_running_of
 fdt_goes now draft s e = ap (fdt_running_by now (real_draft draft) s) e

@@ -1,7 +1,7 @@
 -- Runs of the code are the definition's, call by call, and so keep its promises; a refused call leaves the sender as it was.
 use mathlib.Core.Path.{◌≡◌, refl, sym, ◌∙◌, ap, subst}
 use mathlib.Core.Bool.{Bool, true, false, not, ◌&&◌, false≢true}
-use mathlib.Core.Option.{Option, none, some}
+use Rattle.std.specs.Prelude.{Option, None, Some}
 use mathlib.Core.List.{List, [], ◌∷◌, map}
 use Prim.Native.Nat.{ℕ}
 use lib.Dec.{ltb}
@@ -172,12 +172,12 @@ module _ (s : Sender) where
   refused_publish now c = subst (λ (r : Published). refuses (alloc_answer (publication_said r.answer)) → with_list s r.fdt ≡ s) (sym (publish_as c s.fdt now)) (by (publish_refusal_of c s.fdt))
     where
       by : (o : Option Refusal) → refuses (alloc_answer (publication_said (published_by c s.fdt now o).answer)) → with_list s (published_by c s.fdt now o).fdt ≡ s
-      by none e = absurd (false≢true e)
-      by (some why) e = refl
+      by None e = absurd (false≢true e)
+      by (Some why) e = refl
 
   refused_fdt_run : (now : ℕ) (draft : Draft) (x : Option Refusal) → refuses (fdt_answer (fdt_running_by now draft s x).taken (fdt_running_by now draft s x).answer) → (fdt_running_by now draft s x).sender ≡ s
-  refused_fdt_run now draft none e = let r = fdt_ran_of s.window now draft s.fdt s.fdt_session in absurd (false≢true (sym (served_fdt r.taken r.session.id r.answer) ∙ e))
-  refused_fdt_run now draft (some n) e = refl
+  refused_fdt_run now draft None e = let r = fdt_ran_of s.window now draft s.fdt s.fdt_session in absurd (false≢true (sym (served_fdt r.taken r.session.id r.answer) ∙ e))
+  refused_fdt_run now draft (Some n) e = refl
 
   refused_run_fdt : (now : ℕ) (draft : Draft) → refuses (fdt_answer (fdt_running_of now draft s).taken (fdt_running_of now draft s).answer) → (fdt_running_of now draft s).sender ≡ s
   unfolding fdt_running_of

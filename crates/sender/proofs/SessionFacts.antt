@@ -1,7 +1,7 @@
 -- What a run of a file session means in the definition's words, and what stays in it.
 use mathlib.Core.Path.{◌≡◌, refl, ◌∙◌}
 use mathlib.Core.Bool.{Bool, true, false, not, ◌&&◌, ◌||◌, false≢true}
-use mathlib.Core.Option.{Option, none, some}
+use Rattle.std.specs.Prelude.{Option, None, Some}
 use Prim.Native.Nat.{ℕ, ◌≤◌}
 use lib.Dec.{eqb}
 use Rattle.sizes.specs.Limits.{largest_window}
@@ -40,9 +40,9 @@ has_slot x j = x.busy && eqb x.slot j
 
 -- the packet of an answer, for the object with number t
 abbrev pub packet_said : ℕ → Outcome → Option Packet
-packet_said t Idle = none
-packet_said t (Sent s) = some record { id = none; toi = t; symbol = symbol_said s }
-packet_said t Over = none
+packet_said t Idle = None
+packet_said t (Sent s) = Some record { id = None; toi = t; symbol = symbol_said s }
+packet_said t Over = None
 
 -- what a run comes to
 abbrev pub turn_of : Turn → Def.Turn

@@ -1,7 +1,7 @@
 -- A round of a file session with an object in hand is the definition's; what it leaves in hand, and what is in transfer after it.
 use mathlib.Core.Path.{◌≡◌, refl, sym, ◌∙◌, ap, subst}
 use mathlib.Core.Bool.{Bool, true, false, not, ◌&&◌, ◌||◌, true≢false}
-use mathlib.Core.Option.{Option, none, some}
+use Rattle.std.specs.Prelude.{Option, None, Some}
 use mathlib.Core.List.{List, [], ◌∷◌, ◌++◌, map}
 use Prim.Native.Nat.{ℕ}
 use lib.Dec.{eqb}
@@ -69,21 +69,21 @@ module _ (now w : ℕ) (f : Fdt) (g : Holds f) (x : SenderSession) (h : InHand f
 
   module _ (b : x.busy ≡ true) where
     -- it stays in hand
-    still_view : Def.idle (queue_of f) (some (in_hand f x)) ≡ turn_of (record { answer = Idle; fdt = f; session = x })
-    still_view = ap (λ c. Def.idle (queue_of f) (when c then some (in_hand f x) else none)) (sym b)
+    still_view : Def.idle (queue_of f) (Some (in_hand f x)) ≡ turn_of (record { answer = Idle; fdt = f; session = x })
+    still_view = ap (λ c. Def.idle (queue_of f) (when c then Some (in_hand f x) else None)) (sym b)
 
     -- a symbol of it was sent
     sent_view : (s : Symbol) (y : BlockEncoder) → Def.sent (queue_of f) (in_hand f x) (encoder_of y) (symbol_said s) ≡ turn_of (record { answer = Sent s; fdt = f; session = after x y })
     unfolding Def.sent
     sent_view s y = λ i. record {
-      packet = some record { id = none; toi = (file_at f.slots x.slot).toi; symbol = symbol_said s };
+      packet = Some record { id = None; toi = (file_at f.slots x.slot).toi; symbol = symbol_said s };
       queue = queue_of f;
-      hand = when sym b i then some record {
+      hand = when sym b i then Some record {
         object = object_of (file_at f.slots x.slot);
         listed = (slot_at f.slots x.slot).listed;
         encoder = encoder_of y;
         pace = sym (ticked_view x.pace) i;
-      } else none;
+      } else None;
     }
 
 -- ---- what a round keeps
@@ -177,12 +177,12 @@ module _ (u : Setup) (now w : ℕ) (window : u.window ≡ w) (f : Fdt) (g : Hold
       (go (waits_of f.announcer) (too_early now (pace_said x.pace)) r.answer)
     where
       still : Def.Turn
-      still = Def.idle (queue_of f) (some (in_hand f x))
+      still = Def.idle (queue_of f) (Some (in_hand f x))
 
       -- the definition's round, by whether an FDT is queued, whether it is too early, and what is read
       round_by : Bool → Bool → Option DefEncoder.Symbol × DefEncoder.Encoder → Def.Round
       round_by queued early z = when queued then Def.Round.over still else when early then Def.Round.over still
-          else elim z.0 [ none ↦ Def.Round.again (Def.put_back now (in_hand f x) (queue_of f)) | some y ↦ Def.Round.over (Def.sent (queue_of f) (in_hand f x) z.1 y) ]
+          else elim z.0 [ None ↦ Def.Round.again (Def.put_back now (in_hand f x) (queue_of f)) | Some y ↦ Def.Round.over (Def.sent (queue_of f) (in_hand f x) z.1 y) ]
 
       -- the code's
       ran_after : Bool → Bool → Emitted → Turn

@@ -1,7 +1,7 @@
 -- Set-up: which numbers are in their ranges, and that the sender which it opens is the definition's opening desk.
 use mathlib.Core.Path.{◌≡◌, refl, sym, ◌∙◌, ap, subst}
 use mathlib.Core.Bool.{Bool, true, false, false≢true}
-use mathlib.Core.Option.{none, some}
+use Rattle.std.specs.Prelude.{None, Some}
 use mathlib.Core.List.{List, [], ◌∷◌, map}
 use Prim.Native.Nat.{ℕ, zero, suc, ◌≤◌}
 use native.Mathlib.Omega.{arith}
@@ -171,7 +171,7 @@ module _ (l : List ℕ) (n : ℕ) where
 
 -- those in use have the priorities that were named
 named : (t : List Slot) (l : List ℕ) (n : ℕ) → length l ≡ 4 → n ≤ 4
-    → map (session_of t) (take n (four (priority_at l n))) ≡ map (λ p. record { priority = p; hand = none }) (take n l)
+    → map (session_of t) (take n (four (priority_at l n))) ≡ map (λ p. record { priority = p; hand = None }) (take n l)
 unfolding priority_at
 named t (x ∷ y ∷ z ∷ w ∷ []) zero q h = refl
 named t (x ∷ y ∷ z ∷ w ∷ []) (suc zero) q h = refl
@@ -207,7 +207,7 @@ module _ (z : Setup) (long : length z.priorities ≡ most_sessions) (ok : sound 
   desk_opened =
       let o = opened_list in
       let q : (when leb z.count most_sessions then take z.count z.priorities else replicate z.count 0) ≡ take z.count z.priorities = rw (le-leb z.count most_sessions few) in
-      let e = named (opening_sender z).fdt.slots z.priorities z.count long few ∙ sym (ap (map (λ p. record { priority = p; hand = none })) q) in
+      let e = named (opening_sender z).fdt.slots z.priorities z.count long few ∙ sym (ap (map (λ p. record { priority = p; hand = None })) q) in
       let n = ap (λ (a : ToiAllocator). a.next) o.tois ∙ (opened_next z.width z.first_toi).0 in
       let l = ap Alloc.loose o.tois ∙ (opened_view z.width z.first_toi).0 in
       λ i. record {
@@ -216,7 +216,7 @@ module _ (z : Setup) (long : length z.priorities ≡ most_sessions) (ok : sound 
         loose = l i;
         queue = map object_of (o.queue i);
         sessions = e i;
-        fdt = record { state = o.side i; hand = none };
+        fdt = record { state = o.side i; hand = None };
       }
 
   agrees_opened : Agrees (setup_said z) (opening_sender z)
@@ -289,7 +289,7 @@ module _ (z : Setup) where
       let k = opening_kept z long q in
       record {
         exact = rw q;
-        means = rw q (ap (λ x. (Def.Answer.done, some x)) (sym k.means));
+        means = rw q (ap (λ x. (Def.Answer.done, Some x)) (sym k.means));
         agrees = λ h. k.agrees;
         valid = k.valid;
       }

@@ -1,6 +1,6 @@
 -- The encoder as the code has it: what it means, and what each function makes of it.
 use Rattle.std.specs.Prelude.{◌≡◌, Bool, true, false, not, ◌&&◌, ◌||◌, List, map, ℕ, zero, suc, ◌+◌, ◌-◌, ◌*◌, ◌≤◌, ◌<◌, min, eqb, ltb, leb, length, get_or, take, set, replicate}
-use Rattle.std.proofs.Math.Option.{Option, none, some}
+use Rattle.std.specs.Prelude.{Option, None, Some}
 use Rattle.sizes.specs.Words.{when◌then◌else◌, all, shut, tally}
 use Rattle.sizes.specs.Limits.{wide, largest_block, largest_window}
 use Rattle.sizes.specs.Partition.{sbn, esi, blocks_of, symbols_in, first_symbol}
@@ -36,8 +36,8 @@ abbrev pub symbol_said : Symbol → Def.Symbol
 symbol_said s = record { block = s.sbn; symbol = s.esi; symbols = s.symbols; payload = s.payload; transfer_length = s.transfer_length; close = s.close }
 
 abbrev pub emitted_said : Emitted → Option Def.Symbol
-emitted_said (One s) = some (symbol_said s)
-emitted_said Nothing = none
+emitted_said (One s) = Some (symbol_said s)
+emitted_said Nothing = None
 
 -- ---- what every call keeps
 

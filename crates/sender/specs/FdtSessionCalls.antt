@@ -1,6 +1,6 @@
 -- The FDT session as the code has it: what it means, and what each function makes of it.
 use Rattle.std.specs.Prelude.{◌≡◌, Bool, true, false, ◌||◌, ℕ, ◌+◌, ◌<◌, ◌≤◌, get_or}
-use Rattle.std.proofs.Math.Option.{Option, none, some}
+use Rattle.std.specs.Prelude.{Option, None, Some}
 use Rattle.sizes.specs.Words.{when◌then◌else◌}
 use Rattle.sizes.specs.Limits.{wide, largest_window}
 use Rattle.sizes.specs.declared.partition.Sizes.{Sizes}
@@ -28,7 +28,7 @@ use Rattle.sender.specs.declared.fdtsession.FdtTurn.{FdtTurn}
 
 -- the part of what is in hand is the encoder's
 abbrev pub fdt_hand_of : FdtSession → Option Def.FdtHand
-fdt_hand_of x = when x.busy then some record { id = x.id; part = x.encoder.content.part; encoder = encoder_of x.encoder } else none
+fdt_hand_of x = when x.busy then Some record { id = x.id; part = x.encoder.content.part; encoder = encoder_of x.encoder } else None
 
 -- ---- what every call keeps
 

@@ -1,6 +1,6 @@
 -- The sender as the code has it: the desk that it is, what every call keeps, what each call makes of it, and what is promised of each.
 use Rattle.std.specs.Prelude.{◌≡◌, Bool, true, false, List, map, ℕ, ◌<◌, ◌≤◌, eqb, ltb, length, get_or, take, set}
-use Rattle.std.proofs.Math.Option.{Option, none, some}
+use Rattle.std.specs.Prelude.{Option, None, Some}
 use Rattle.sizes.specs.Words.{when◌then◌else◌, any, collect, Counts}
 use Rattle.sizes.specs.declared.refusal.Refusal.{Refusal}
 use Rattle.sizes.specs.declared.refusal.Refusal.TheVariants as Because
@@ -78,7 +78,7 @@ pub record Agrees (u : DefSetup) (s : Sender) : Type 0 where
 
 -- the slot that a session has in hand
 abbrev pub slot_in : SenderSession → Option ℕ
-slot_in x = when x.busy then some x.slot else none
+slot_in x = when x.busy then Some x.slot else None
 
 pub record ValidSender (s : Sender) : Type 0 where
   pub holds : Holds s.fdt
@@ -116,35 +116,35 @@ add_answer (AdmissionV.Toi t) = Def.Answer.number t
 add_answer (AdmissionV.Refused why) = Def.Answer.refused why
 
 abbrev pub packet_said : Packet → DefPacket
-packet_said p = record { id = when p.is_fdt then some p.fdt_id else none; toi = p.toi; symbol = symbol_said p.symbol }
+packet_said p = record { id = when p.is_fdt then Some p.fdt_id else None; toi = p.toi; symbol = symbol_said p.symbol }
 
 -- the packet of an answer, if there is one
 abbrev pub packet_in : RunAnswer → Option DefPacket
-packet_in (RunV.Packet p) = some (packet_said p)
-packet_in RunV.Nothing = none
-packet_in (RunV.Refused why) = none
+packet_in (RunV.Packet p) = Some (packet_said p)
+packet_in RunV.Nothing = None
+packet_in (RunV.Refused why) = None
 
 -- of a file session
 abbrev pub file_answer : RunAnswer → Def.Answer
-file_answer (RunV.Packet p) = Def.Answer.output (some (packet_said p))
-file_answer RunV.Nothing = Def.Answer.output none
+file_answer (RunV.Packet p) = Def.Answer.output (Some (packet_said p))
+file_answer RunV.Nothing = Def.Answer.output None
 file_answer (RunV.Refused why) = Def.Answer.refused why
 
 -- of the FDT session, with whether the draft was taken
 abbrev pub fdt_answer : Bool → RunAnswer → Def.Answer
-fdt_answer taken (RunV.Packet p) = Def.Answer.fdt_output taken (some (packet_said p))
-fdt_answer taken RunV.Nothing = Def.Answer.fdt_output taken none
+fdt_answer taken (RunV.Packet p) = Def.Answer.fdt_output taken (Some (packet_said p))
+fdt_answer taken RunV.Nothing = Def.Answer.fdt_output taken None
 fdt_answer taken (RunV.Refused why) = Def.Answer.refused why
 
 -- ---- what each call is on the definition's side
 
 abbrev pub named_said : Named → Option ℕ
-named_said (NamedV.Toi t) = some t
-named_said NamedV.Anew = none
+named_said (NamedV.Toi t) = Some t
+named_said NamedV.Anew = None
 
 abbrev pub own_said : Own → Option Sizes
-own_said (OwnV.Sizes z) = some z
-own_said OwnV.SetUp = none
+own_said (OwnV.Sizes z) = Some z
+own_said OwnV.SetUp = None
 
 abbrev pub object_said : Object → Def.Request
 object_said o = record {
@@ -225,12 +225,12 @@ draft_answer (DraftTestV.Refused why) = RunV.Refused why
 
 -- a run of the FDT session with a draft that was looked at
 abbrev pub fdt_running_by : ℕ → Draft → Sender → Option Refusal → Running
-fdt_running_by now draft s none = let r = fdt_ran_of s.window now draft s.fdt s.fdt_session in record {
+fdt_running_by now draft s None = let r = fdt_ran_of s.window now draft s.fdt s.fdt_session in record {
   taken = r.taken;
   answer = answer_of true 0 r.session.id r.answer;
   sender = record { fdt = r.fdt; window = s.window; count = s.count; sessions = s.sessions; fdt_session = r.session };
 }
-fdt_running_by now draft s (some why) = record { taken = false; answer = RunV.Refused why; sender = s }
+fdt_running_by now draft s (Some why) = record { taken = false; answer = RunV.Refused why; sender = s }
 
 unfoldable pub fdt_running_of : ℕ → Draft → Sender → Running
 fdt_running_of now draft s = fdt_running_by now (real_draft draft) s (draft_test_of (real_draft draft) s.fdt)

@@ -1,6 +1,6 @@
 -- The file sessions as the code has them: what they mean, and what each function makes of them.
 use Rattle.std.specs.Prelude.{◌≡◌, Bool, true, false, not, ◌&&◌, ◌||◌, List, ℕ, ◌+◌, ◌<◌, ◌≤◌, replicate}
-use Rattle.std.proofs.Math.Option.{none, some}
+use Rattle.std.specs.Prelude.{None, Some}
 use Rattle.sizes.specs.Words.{when◌then◌else◌}
 use Rattle.sizes.specs.Limits.{wide, object_slots, largest_window}
 use Rattle.sizes.specs.Partition.{sbn, no_blocks}
@@ -38,7 +38,7 @@ abbrev pub hand_of : Slot → SenderSession → Def.Hand
 hand_of v x = record { object = object_of v.file; listed = v.listed; encoder = encoder_of x.encoder; pace = pace_said x.pace }
 
 abbrev pub session_of : List Slot → SenderSession → Def.Session
-session_of t x = record { priority = x.priority; hand = when x.busy then some (hand_of (slot_at t x.slot) x) else none }
+session_of t x = record { priority = x.priority; hand = when x.busy then Some (hand_of (slot_at t x.slot) x) else None }
 
 -- ---- what every call keeps
 

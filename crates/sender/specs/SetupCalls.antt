@@ -1,7 +1,7 @@
 -- Set-up as the code has it: what it says, the sender that it opens, and what is promised of it.
 use Rattle.sizes.specs.declared.refusal.Refusal.TheVariants as Because
 use Rattle.std.specs.Prelude.{◌≡◌, Bool, true, false, List, [], ◌∷◌, map, ℕ, eqb, ltb, leb, get_or, take, replicate}
-use Rattle.std.proofs.Math.Option.{none, some}
+use Rattle.std.specs.Prelude.{None, Some}
 use Rattle.sizes.specs.Words.{when◌then◌else◌}
 use Rattle.sizes.specs.Limits.{most_sessions}
 use Rattle.sizes.specs.Allocator as Alloc
@@ -116,6 +116,6 @@ opened_of z = when sound (setup_said z) then record { ok = true; sender = openin
 
 pub record Opens (z : Setup) (r : Opened) : Type 0 where
   pub exact : r ≡ opened_of z
-  pub means : Def.set_up (setup_said z) ≡ (when r.ok then (Def.Answer.done, some (desk_of r.sender)) else (Def.Answer.refused Because.SetUp, none))
+  pub means : Def.set_up (setup_said z) ≡ (when r.ok then (Def.Answer.done, Some (desk_of r.sender)) else (Def.Answer.refused Because.SetUp, None))
   pub agrees : r.ok ≡ true → Agrees (setup_said z) r.sender
   pub valid : ValidSender r.sender

@@ -1,6 +1,6 @@
 -- Laws of the allocator: what each call makes of the entries in use, and that the allocator stays valid.
 use Rattle.std.proofs.Common.{◌≡◌, ℕ, zero, suc, ◌%◌, ◌^◌, ◌<◌, ◌≤◌, Bool, true, false, not, eqb, ltb, List, [], ◌∷◌, ◌++◌, map, length, get_or, set, replicate, sym, refl, ap, ◌∙◌, subst, add-one, arith, lit≤, length-append, length-set, length-take-le, get_or-set_other, take-suc-set, ltb-true, le-ltb, lt-ltb, eqb-true}
-use mathlib.Core.Option.{Option, none, some}
+use Rattle.std.specs.Prelude.{Option, None, Some}
 use Prim.Native.Nat.{◌∣◌}
 use native.Mathlib.Nat.{mod-mod_of_dvd, dvd_of_mod-eq-zero}
 use lib.ListN.{length-replicate, length-map}
@@ -219,8 +219,8 @@ loose_found t [] = refl
 loose_found t (e ∷ l) = go (tested e.loose) (tested (eqb e.toi t)) (loose_found t l)
   where
     suc_given : (o : Option ℕ) → given (over suc o) ≡ given o
-    suc_given none = refl
-    suc_given (some n) = refl
+    suc_given None = refl
+    suc_given (Some n) = refl
 
     go : Tested e.loose → Tested (eqb e.toi t) → given (place (entry_is t true) l) ≡ has t (collect loose_in l)
         → given (place (entry_is t true) (e ∷ l)) ≡ has t (collect loose_in (e ∷ l))
@@ -230,26 +230,26 @@ loose_found t (e ∷ l) = go (tested e.loose) (tested (eqb e.toi t)) (loose_foun
     go (fail p) (fail q) h = rw (q, p) (suc_given (place (entry_is t true) l) ∙ h)
 
 -- what a search says of the place that it found
-pub found_inside : (a : ToiAllocator) (t : ℕ) (flag : Bool) (i : ℕ) → place (entry_is t flag) (noted a) ≡ some i → i < a.entered
+pub found_inside : (a : ToiAllocator) (t : ℕ) (flag : Bool) (i : ℕ) → place (entry_is t flag) (noted a) ≡ Some i → i < a.entered
 found_inside a t flag i p = go (sought (entry_is t flag) (noted a))
   where
     go : Sought (entry_is t flag) (noted a) → i < a.entered
     go (hit n e h) = let s : n ≡ i = cc in subst (λ k. k < a.entered) s (at_take a.entries a.entered n e h.stands)
     go (miss q u) = absurd (none≢some (sym q ∙ p))
 
-pub claimed_some : (a : ToiAllocator) (t i : ℕ) → place (entry_is t true) (noted a) ≡ some i → claimed_of t a ≡ changed (bound_at a t i)
+pub claimed_some : (a : ToiAllocator) (t i : ℕ) → place (entry_is t true) (noted a) ≡ Some i → claimed_of t a ≡ changed (bound_at a t i)
 unfolding claimed_of
 claimed_some a t i p = rw p
 
-pub claimed_none : (a : ToiAllocator) (t : ℕ) → place (entry_is t true) (noted a) ≡ none → claimed_of t a ≡ unchanged a
+pub claimed_none : (a : ToiAllocator) (t : ℕ) → place (entry_is t true) (noted a) ≡ None → claimed_of t a ≡ unchanged a
 unfolding claimed_of
 claimed_none a t p = rw p
 
-pub dropped_some : (a : ToiAllocator) (flag : Bool) (t i : ℕ) → place (entry_is t flag) (noted a) ≡ some i → dropped_of flag t a ≡ changed (entry_gone a i)
+pub dropped_some : (a : ToiAllocator) (flag : Bool) (t i : ℕ) → place (entry_is t flag) (noted a) ≡ Some i → dropped_of flag t a ≡ changed (entry_gone a i)
 unfolding dropped_of
 dropped_some a flag t i p = rw p
 
-pub dropped_none : (a : ToiAllocator) (flag : Bool) (t : ℕ) → place (entry_is t flag) (noted a) ≡ none → dropped_of flag t a ≡ unchanged a
+pub dropped_none : (a : ToiAllocator) (flag : Bool) (t : ℕ) → place (entry_is t flag) (noted a) ≡ None → dropped_of flag t a ≡ unchanged a
 unfolding dropped_of
 dropped_none a flag t p = rw p
 

@@ -16,14 +16,14 @@ pub one_more : (n b : ℕ) → (n + 1) * b ≡ n * b + b
 one_more n b = add-mul n 1 b ∙ ap (λ (m : ℕ). n * b + m) (one-mul b)
 
 -- a product is compared by a quotient
-module _ (a b m : ℕ) (some : 0 < a) where
+module _ (a b m : ℕ) (Some : 0 < a) where
   pub product_within : b ≤ m / a → a * b ≤ m
-  product_within h = rw (mul_comm a b) ((le-div_iff_mul-le some).0 h)
+  product_within h = rw (mul_comm a b) ((le-div_iff_mul-le Some).0 h)
 
   pub product_past : m / a < b → m < a * b
-  product_past h = rw (mul_comm a b) ((div-lt_iff_lt-mul some).0 h)
+  product_past h = rw (mul_comm a b) ((div-lt_iff_lt-mul Some).0 h)
 
-module _ (a b : ℕ) (some : 0 < b) where
+module _ (a b : ℕ) (Some : 0 < b) where
   pub ceil_exact : a % b ≡ 0 → ceil a b ≡ a / b
   unfolding ceil
   ceil_exact e =
@@ -35,7 +35,7 @@ module _ (a b : ℕ) (some : 0 < b) where
   unfolding ceil
   ceil_more e =
       let h = div-add-mod' a b in
-      let r = mod-lt a some in
+      let r = mod-lt a Some in
       let g = one_more (a / b) b in
       let k = one_more (a / b + 1) b in
       div-eq_of_lt-le b (omega arith) (omega arith)
@@ -51,7 +51,7 @@ module _ (a b : ℕ) (some : 0 < b) where
   pub ceil_enough : a ≤ ceil a b * b
   unfolding ceil
   ceil_enough =
-      let h : a + (b - 1) < (a + (b - 1)) / b * b + b = lt-div-mul-add some in
+      let h : a + (b - 1) < (a + (b - 1)) / b * b + b = lt-div-mul-add Some in
       omega arith
 
   -- and less than one group is left over

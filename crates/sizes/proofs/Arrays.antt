@@ -1,6 +1,6 @@
 -- Laws of arrays with a length: a search over the first n elements, a gap that is closed, a change of each element.
 use Rattle.std.proofs.Common.{◌≡◌, ℕ, zero, suc, ◌+◌, ◌-◌, ◌<◌, ◌≤◌, Bool, true, false, List, [], ◌∷◌, ◌++◌, map, length, get_or, take, drop, set, refl, ap, ◌∙◌, add-one, arith, length-set, drop_of_length-le, length-take-le, drop-cons, get_or-take}
-use mathlib.Core.Option.{Option, none, some}
+use Rattle.std.specs.Prelude.{Option, None, Some}
 use Rattle.sizes.specs.Words.{over, any, all, cut, place, shut, Each}
 
 -- a search from the front over the first n elements: what is left to do after i turns comes to the same
@@ -36,22 +36,22 @@ module _ {A : Type 0} (ok : A → Bool) (n : ℕ) (l : List A) (long : n ≤ len
   abbrev pub ahead : Option ℕ
   ahead = over (λ k. i + k) (place ok (drop i (take n l)))
 
-  pub place_hit : (z : A) → i < n → ok (get_or l i z) ≡ true → ahead ≡ some i
-  place_hit z h e = rw (next z h, e) (ap some (let r : i + 0 ≡ i = omega arith in r))
+  pub place_hit : (z : A) → i < n → ok (get_or l i z) ≡ true → ahead ≡ Some i
+  place_hit z h e = rw (next z h, e) (ap Some (let r : i + 0 ≡ i = omega arith in r))
 
-  pub place_end : n ≤ i → ahead ≡ none
+  pub place_end : n ≤ i → ahead ≡ None
   place_end h = rw (drop_of_length-le (take n l) (past h))
 
 pub over_over : {A B C : Type 0} (f : B → C) (g : A → B) (h : A → C) → ((a : A) → f (g a) ≡ h a) → (o : Option A) → over f (over g o) ≡ over h o
-over_over f g h e none = refl
-over_over f g h e (some a) = ap some (e a)
+over_over f g h e None = refl
+over_over f g h e (Some a) = ap Some (e a)
 
 pub place_start : {A : Type 0} (ok : A → Bool) (n : ℕ) (l : List A) (long : n ≤ length l) → ahead ok n l long 0 ≡ place ok (take n l)
 place_start ok n l long = same (place ok (take n l))
   where
     same : (o : Option ℕ) → over (λ k. 0 + k) o ≡ o
-    same none = refl
-    same (some k) = ap some (let r : 0 + k ≡ k = omega arith in r)
+    same None = refl
+    same (Some k) = ap Some (let r : 0 + k ≡ k = omega arith in r)
 
 pub place_miss : {A : Type 0} (ok : A → Bool) (n : ℕ) (l : List A) (long : n ≤ length l) (i : ℕ) (z : A) → i < n → ok (get_or l i z) ≡ false
     → ahead ok n l long i ≡ ahead ok n l long (i + 1)

@@ -1,7 +1,7 @@
 -- Laws of block-length: by which tests it is none, and what it is where every number fits.
 use Rattle.std.proofs.Common.{◌≡◌, ℕ, ◌+◌, ◌-◌, ◌*◌, ◌<◌, ◌≤◌, min, ◌∙◌, ⊎_elim, mul_assoc, add-mul, arith, le-ltb, lt-ltb}
 use mathlib.Core.Bool.{and-false}
-use mathlib.Core.Option.{none, some}
+use Rattle.std.specs.Prelude.{None, Some}
 use Rattle.sizes.specs.Limits.{wide}
 use Rattle.sizes.specs.Partition.{fits, checked, reach, symbols_in, first_symbol, block_start, block_size, block_length}
 use Rattle.sizes.proofs.Arithmetic.{below_or}
@@ -35,15 +35,15 @@ module _ (n : ℕ) where
 
 -- of a block, what l bytes reach
 module _ (offset size l : ℕ) where
-  pub reach_later : l ≤ offset → reach offset size l ≡ none
+  pub reach_later : l ≤ offset → reach offset size l ≡ None
   unfolding reach
   reach_later h = rw (le-ltb _ _ h)
 
-  pub reach_empty : size ≡ 0 → reach offset size l ≡ none
+  pub reach_empty : size ≡ 0 → reach offset size l ≡ None
   unfolding reach
   reach_empty h = rw (h, and-false)
 
-  pub reach_some : offset < l → 0 < size → reach offset size l ≡ some (min size (l - offset))
+  pub reach_some : offset < l → 0 < size → reach offset size l ≡ Some (min size (l - offset))
   unfolding reach
   reach_some h g = rw (lt-ltb _ _ h, lt-ltb _ _ g)
 
@@ -85,17 +85,17 @@ module _ (p : Partition) (k : Sbn) where
     start_small e = rw before_small (add-mul _ _ _ ∙ rw (mul_assoc p.nb_a_large, mul_assoc (k.0 - p.nb_a_large)))
 
 module _ (p : Partition) (l e : ℕ) (k : Sbn) where
-  pub large_past : wide ≤ p.large * e → block_length p l e k ≡ none
+  pub large_past : wide ≤ p.large * e → block_length p l e k ≡ None
   unfolding block_length fits
   large_past h = rw (le-ltb _ _ h)
 
   module _ (large : p.large * e < wide) where
-    pub small_past : wide ≤ p.small * e → block_length p l e k ≡ none
+    pub small_past : wide ≤ p.small * e → block_length p l e k ≡ None
     unfolding block_length fits
     small_past h = rw (lt-ltb _ _ large, le-ltb _ _ h)
 
     module _ (small : p.small * e < wide) where
-      pub start_past : wide ≤ block_start p e k → block_length p l e k ≡ none
+      pub start_past : wide ≤ block_start p e k → block_length p l e k ≡ None
       unfolding block_length fits
       start_past h = rw (lt-ltb _ _ large, lt-ltb _ _ small, le-ltb _ _ h)
 
@@ -104,22 +104,22 @@ module _ (p : Partition) (l e : ℕ) (k : Sbn) where
       all_fit h = rw (lt-ltb _ _ large, lt-ltb _ _ small, lt-ltb _ _ h)
 
   -- what the steps of block_length tell: x and y are the two sizes
-  pub large_told : checked (p.large * e) ≡ Past → block_length p l e k ≡ none
+  pub large_told : checked (p.large * e) ≡ Past → block_length p l e k ≡ None
   large_told h = large_past (past _ h)
 
   module _ (x : ℕ) (large : checked (p.large * e) ≡ Fits x) where
-    pub small_told : checked (p.small * e) ≡ Past → block_length p l e k ≡ none
+    pub small_told : checked (p.small * e) ≡ Past → block_length p l e k ≡ None
     small_told h = small_past (fitted _ x large).1 (past _ h)
 
     module _ (y : ℕ) (small : checked (p.small * e) ≡ Fits y) where
-      start_told : wide ≤ block_start p e k → block_length p l e k ≡ none
+      start_told : wide ≤ block_start p e k → block_length p l e k ≡ None
       start_told = start_past (fitted _ x large).1 (fitted _ y small).1
 
       module _ (first : k.0 < p.nb_a_large) where
         begun : block_start p e k ≡ k.0 * x
         begun = rw (fitted _ x large).0 (start_large p k first e)
 
-        pub first_past : checked (k.0 * x) ≡ Past → block_length p l e k ≡ none
+        pub first_past : checked (k.0 * x) ≡ Past → block_length p l e k ≡ None
         first_past h = start_told (rw begun (past _ h))
 
         pub first_fits : (o : ℕ) → checked (k.0 * x) ≡ Fits o → block_length p l e k ≡ reach o x l
@@ -131,17 +131,17 @@ module _ (p : Partition) (l e : ℕ) (k : Sbn) where
         begun' : block_start p e k ≡ p.nb_a_large * x + (k.0 - p.nb_a_large) * y
         begun' = rw ((fitted _ x large).0, (fitted _ y small).0) (start_small p k later e)
 
-        pub small_offset_past : checked ((k.0 - p.nb_a_large) * y) ≡ Past → block_length p l e k ≡ none
+        pub small_offset_past : checked ((k.0 - p.nb_a_large) * y) ≡ Past → block_length p l e k ≡ None
         small_offset_past h = start_told (rw begun' (omega (arith, past _ h)))
 
-        pub large_offset_past : checked (p.nb_a_large * x) ≡ Past → block_length p l e k ≡ none
+        pub large_offset_past : checked (p.nb_a_large * x) ≡ Past → block_length p l e k ≡ None
         large_offset_past h = start_told (rw begun' (omega (arith, past _ h)))
 
         module _ (s t : ℕ) (after : checked ((k.0 - p.nb_a_large) * y) ≡ Fits s) (before : checked (p.nb_a_large * x) ≡ Fits t) where
           both : block_start p e k ≡ t + s
           both = begun' ∙ rw ((fitted _ s after).0, (fitted _ t before).0)
 
-          pub offset_past : checked (t + s) ≡ Past → block_length p l e k ≡ none
+          pub offset_past : checked (t + s) ≡ Past → block_length p l e k ≡ None
           offset_past h = start_told (rw both (past _ h))
 
           pub later_fits : (o : ℕ) → checked (t + s) ≡ Fits o → block_length p l e k ≡ reach o y l

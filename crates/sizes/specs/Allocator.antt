@@ -1,6 +1,6 @@
 -- The allocator of object numbers: 64 entries, each a number that is held by a loose reservation or by an object.
 use Rattle.std.specs.Prelude.{◌≡◌, ℕ, ◌+◌, ◌-◌, ◌≤◌, Bool, true, false, not, ◌&&◌, List, [], ◌∷◌, ◌++◌, map, length, take, replicate, ◌==◌, nat_lt, slice_index_or, slice_set}
-use Rattle.std.proofs.Math.Option.{Option, none, some}
+use Rattle.std.specs.Prelude.{Option, None, Some}
 use Rattle.sizes.specs.Words.{when◌then◌else◌, maybe, has, place, shut, collect, times, Each}
 use Rattle.sizes.specs.Limits.{toi_entries}
 use Rattle.sizes.specs.declared.refusal.Refusal.{Refusal}
@@ -55,10 +55,10 @@ abbrev pub held : ToiAllocator → List ℕ
 held a = map (λ (e : Entry). e.toi) (noted a)
 
 abbrev pub loose_in : Entry → Option ℕ
-loose_in e = when e.loose then some e.toi else none
+loose_in e = when e.loose then Some e.toi else None
 
 abbrev pub bound_in : Entry → Option ℕ
-bound_in e = when e.loose then none else some e.toi
+bound_in e = when e.loose then None else Some e.toi
 
 -- the numbers of loose reservations, and those of objects
 abbrev pub loose : ToiAllocator → List ℕ

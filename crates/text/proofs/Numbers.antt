@@ -2,7 +2,7 @@
 use mathlib.Core.Path.{◌≡◌, refl, sym, ◌∙◌}
 use mathlib.Core.List.{List, [], ◌∷◌, ◌++◌}
 use mathlib.Core.Bool.{true, false}
-use mathlib.Core.Option.{some}
+use Rattle.std.specs.Prelude.{Some}
 use mathlib.Core.Logic.{⊎_elim}
 use Prim.Native.Nat.{ℕ, ◌+◌, ◌-◌, ◌*◌, ◌^◌, ◌<◌, ◌≤◌}
 use native.Mathlib.Nat.{not-suc-le-zero}
@@ -55,7 +55,7 @@ unfolding numeral_answer numeral fitted
 number_empty [] h = refl
 number_empty (b ∷ l) h = absurd (omega arith)
 
-pub numeral_some : (w : List ℕ) → 0 < length w → all_digits w ≡ true → numeral w ≡ some (value_from 0 w)
+pub numeral_some : (w : List ℕ) → 0 < length w → all_digits w ≡ true → numeral w ≡ Some (value_from 0 w)
 unfolding numeral
 numeral_some [] k h = absurd (not-suc-le-zero k)
 numeral_some (b ∷ l) k h = rw h

@@ -1,6 +1,6 @@
 -- Decimal numerals.
 use Rattle.std.specs.Prelude.{◌≡◌, List, [], ◌∷◌, Bool, true, cond, ◌&&◌, ℕ, ◌+◌, ◌-◌, ◌*◌, ◌^◌, ◌<◌, ◌≤◌, leb, ltb, length}
-use Rattle.std.proofs.Math.Option.{Option, some, none}
+use Rattle.std.specs.Prelude.{Option, Some, None}
 use Rattle.text.specs.Bytes.{part}
 use Rattle.text.specs.Words.{word_from}
 use Rattle.text.specs.declared.word.Word.{Word}
@@ -25,16 +25,16 @@ value_from v (b ∷ l) = value_from (v * 10 + (b - 48)) l
 
 -- what a numeral stands for, on unbounded numbers: a numeral is one digit or more, and nothing else
 unfoldable pub numeral : List ℕ → Option ℕ
-numeral [] = none
-numeral (b ∷ l) = cond (all_digits (b ∷ l)) (some (value_from 0 (b ∷ l))) none
+numeral [] = None
+numeral (b ∷ l) = cond (all_digits (b ∷ l)) (Some (value_from 0 (b ∷ l))) None
 
 -- a number as an answer of 64 bits
 unfoldable pub in_width : ℕ → Number
 in_width v = cond (ltb v (2 ^ 64)) (Value v) Past
 
 unfoldable pub fitted : Option ℕ → Number
-fitted none = Unreadable
-fitted (some v) = in_width v
+fitted None = Unreadable
+fitted (Some v) = in_width v
 
 unfoldable pub numeral_answer : List ℕ → Number
 numeral_answer w = fitted (numeral w)

@@ -248,13 +248,13 @@ module _ (bs : List ℕ) (a : Reading) (b : Bytes bs) (q : RecordReads bs a) whe
   unfolding found
   faulty_not f = go (tested (readable bs)) f
     where
-      none : readable bs ≡ true → ReadFault bs → ⊥
-      none e (ReadFault.wrong_length n) = n (readable_all e).0
-      none e (ReadFault.bit_in_padding h) = omega (arith, (readable_all e).1)
-      none e (ReadFault.bad_fields g) = true≢false (sym (readable_all e).2 ∙ fault_bad found g)
+      None : readable bs ≡ true → ReadFault bs → ⊥
+      None e (ReadFault.wrong_length n) = n (readable_all e).0
+      None e (ReadFault.bit_in_padding h) = omega (arith, (readable_all e).1)
+      None e (ReadFault.bad_fields g) = true≢false (sym (readable_all e).2 ∙ fault_bad found g)
 
       go : Tested (readable bs) → ReadFault bs → readable bs ≡ false
-      go (pass e) g = absurd (none e g)
+      go (pass e) g = absurd (None e g)
       go (fail e) g = e
 
   not_faulty : readable bs ≡ false → ReadFault bs

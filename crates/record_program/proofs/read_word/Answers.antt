@@ -1,7 +1,7 @@
 -- `record_program::read_word` meets its contract: what is read are the bytes that the word spells.
 use mathlib.Core.Path.{◌≡◌, sym, ◌∙◌, ap, subst}
 use mathlib.Core.List.{List}
-use mathlib.Core.Option.{Option, none, some}
+use Rattle.std.specs.Prelude.{Option, None, Some}
 use Prim.Native.Nat.{ℕ, zero-le, ◌≤◌}
 use native.Mathlib.Nat.{sub-zero}
 use native.Mathlib.Omega.{arith}
@@ -19,17 +19,17 @@ use Rattle.record_program.specs.declared.hex.Spelled.TheVariants.{Bytes, Nothing
 use Rattle.record_program.proofs.read_word.Goals as goal
 
 abbrev shown : Option (List ℕ) → Option RecordAnswer
-shown = maybe none (λ bs. some (read_answer bs))
+shown = maybe None (λ bs. Some (read_answer bs))
 
 module _ {w out : List ℕ} {r : Spelled} (h : HexRead w out r) where
-  spells_none : r ≡ Nothing → none ≡ word_reading w
+  spells_none : r ≡ Nothing → None ≡ word_reading w
   spells_none e = ap shown (ap (spelled_said out) (sym e) ∙ h.exact)
 
   spells : {bs : List ℕ} {a : Reading} (n : ℕ) → r ≡ Bytes n → bs ≡ part 0 n out → RecordReads bs a → word_said (Are a) ≡ word_reading w
   spells n e p f =
       let low : n ≤ length out = subst (Within out) e h.inside in
       let front = part_in 0 n out zero-le low ∙ ap (λ k. take k out) (sub-zero n) in
-      ap some (f.answer ∙ ap read_answer (p ∙ front)) ∙ ap shown (ap (spelled_said out) (sym e) ∙ h.exact)
+      ap Some (f.answer ∙ ap read_answer (p ∙ front)) ∙ ap shown (ap (spelled_said out) (sym e) ∙ h.exact)
 
 pub returns-in_default : goal.returns-in_default
 returns-in_default c = λ short.

@@ -1,6 +1,6 @@
 -- `sizes::partition::reached` meets its contract: each return is a law of `reach`.
 use Rattle.std.proofs.Common.{sym, ap, ◌∙◌, ⊎_elim, arith}
-use mathlib.Core.Option.{some}
+use Rattle.std.specs.Prelude.{Some}
 use native.Mathlib.Nat.{min-eq_left, min-eq_right}
 use Rattle.sizes.proofs.Lengths.{reach_later, reach_empty, reach_some}
 use Rattle.sizes.proofs.partition.reached.Goals as goal
@@ -10,8 +10,8 @@ returns-then-offset-l c = sym (⊎_elim (λ w. reach_later _ _ _ (omega arith)) 
 
 pub returns-then-size-l : goal.returns-then-size-l
 returns-then-size-l c =
-    sym (reach_some _ _ _ (omega arith) (omega arith) ∙ ap some (min-eq_left c.if-size-l.true))
+    sym (reach_some _ _ _ (omega arith) (omega arith) ∙ ap Some (min-eq_left c.if-size-l.true))
 
 pub returns : goal.returns
 returns c =
-    sym (reach_some _ _ _ (omega arith) (omega arith) ∙ ap some (min-eq_right (omega arith)))
+    sym (reach_some _ _ _ (omega arith) (omega arith) ∙ ap Some (min-eq_right (omega arith)))
