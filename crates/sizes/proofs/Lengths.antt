@@ -7,26 +7,25 @@ use Rattle.sizes.specs.Partition.{fits, checked, reach, symbols_in, first_symbol
 use Rattle.sizes.proofs.Arithmetic.{below_or}
 use Rattle.sizes.specs.declared.numbers.Sbn.{Sbn}
 use Rattle.sizes.specs.declared.partition.Partition.{Partition}
-use Rattle.sizes.specs.declared.partition.Checked.TheVariants.{Fits, Past}
 
 -- what a checked number tells
 module _ (n : ℕ) where
-  pub checked_fits : n < wide → checked n ≡ Fits n
+  pub checked_fits : n < wide → checked n ≡ Some n
   unfolding checked fits
   checked_fits h = rw (lt-ltb n wide h)
 
-  pub checked_past : wide ≤ n → checked n ≡ Past
+  pub checked_past : wide ≤ n → checked n ≡ None
   unfolding checked fits
   checked_past h = rw (le-ltb n wide h)
 
-  pub past : checked n ≡ Past → wide ≤ n
+  pub past : checked n ≡ None → wide ≤ n
   past e =
       ⊎_elim
       (λ h. let f = checked_fits h in let z : ◌≡◌ {A = ℕ} 0 1 = cc in omega arith)
       (λ h. h)
       (below_or n wide)
 
-  pub fitted : (x : ℕ) → checked n ≡ Fits x → (x ≡ n) × (n < wide)
+  pub fitted : (x : ℕ) → checked n ≡ Some x → (x ≡ n) × (n < wide)
   fitted x e =
       ⊎_elim
       (λ h. let f = checked_fits h in ((cc), h))

@@ -2,7 +2,6 @@
 pub mod Words
 pub mod Limits
 pub mod Refusals
-pub mod Place
 pub mod Partition
 pub mod PartitionPromises
 pub mod Toi

@@ -7,10 +7,6 @@ use Rattle.sizes.specs.declared.numbers.Sbn.{Sbn}
 use Rattle.sizes.specs.declared.numbers.Esi.{Esi}
 use Rattle.sizes.specs.declared.partition.Partition.{Partition}
 use Rattle.sizes.specs.declared.partition.Sizes.{Sizes}
-use Rattle.sizes.specs.declared.partition.BlockLength.{BlockLength}
-use Rattle.sizes.specs.declared.partition.BlockLength.TheVariants.{Bytes, Nothing}
-use Rattle.sizes.specs.declared.partition.Checked.{Checked}
-use Rattle.sizes.specs.declared.partition.Checked.TheVariants.{Fits, Past}
 
 -- the block with this number
 abbrev pub sbn : ℕ → Sbn
@@ -62,8 +58,8 @@ unfoldable pub fits : ℕ → Bool
 fits n = nat_lt n wide
 
 -- a number, where it fits 64 bits
-unfoldable pub checked : ℕ → Checked
-checked n = when fits n then Fits n else Past
+unfoldable pub checked : ℕ → Option ℕ
+checked n = when fits n then Some n else None
 
 -- of a block of this size that begins at offset, the bytes that l bytes reach, or none
 unfoldable pub reach : ℕ → ℕ → ℕ → Option ℕ
@@ -79,8 +75,3 @@ block_length p l e k =
 -- the sizes that block_length is handed; it does not ask how many blocks there are
 abbrev pub sizes_given : ℕ → ℕ → ℕ → Partition
 sizes_given large small larges = record { large = large; small = small; nb_a_large = larges; blocks = 0 }
-
--- what the answer of block_length says
-abbrev pub length_said : BlockLength → Option ℕ
-length_said (Bytes n) = Some n
-length_said Nothing = None
