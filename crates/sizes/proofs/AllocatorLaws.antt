@@ -1,6 +1,7 @@
 -- Laws of the allocator: what each call makes of the entries in use, and that the allocator stays valid.
 use Rattle.std.proofs.Common.{◌≡◌, ℕ, zero, suc, ◌%◌, ◌^◌, ◌<◌, ◌≤◌, Bool, true, false, not, eqb, ltb, List, [], ◌∷◌, ◌++◌, map, length, get_or, set, replicate, sym, refl, ap, ◌∙◌, subst, add-one, arith, lit≤, length-append, length-set, length-take-le, get_or-set_other, take-suc-set, ltb-true, le-ltb, lt-ltb, eqb-true}
-use Rattle.std.specs.Prelude.{Option, None, Some}
+use Rattle.std.specs.Prelude.{Option, None, Some, Result, Ok, Err}
+use Rattle.sizes.specs.declared.refusal.Refusal.TheVariants as Because
 use Prim.Native.Nat.{◌∣◌}
 use native.Mathlib.Nat.{mod-mod_of_dvd, dvd_of_mod-eq-zero}
 use lib.ListN.{length-replicate, length-map}
@@ -8,14 +9,11 @@ use lib.Seq.{take-set-lt}
 use Rattle.sizes.specs.Words.{when◌then◌else◌, maybe, over, given, cut, place, collect, Each, has, one_if, times}
 use Rattle.sizes.specs.Limits.{toi_entries}
 use Rattle.sizes.specs.Toi.{skip_zero, cut_to, first_toi, after, free_from, next_toi, Toi}
-use Rattle.sizes.specs.Allocator.{bits, Width, noted, held, loose_in, no_entry, entry_is, new_allocator, noting, moved_on, allocated_of, bound_at, Fresh, entry_gone, unchanged, changed, claimed_of, dropped_of, ValidAllocator, Searchable, Opened, Gives, Becomes}
+use Rattle.sizes.specs.Allocator.{bits, Width, noted, held, loose_in, no_entry, entry_is, new_allocator, noting, moved_on, Allocated, Changed, allocated_of, bound_at, Fresh, entry_gone, unchanged, changed, claimed_of, dropped_of, ValidAllocator, Searchable, Opened, Gives, Becomes}
 use Rattle.sizes.specs.declared.toiallocator.ToiMaxLength.{ToiMaxLength}
 use Rattle.sizes.specs.declared.toiallocator.ToiMaxLength.TheVariants.{ToiMax16, ToiMax32, ToiMax48, ToiMax64}
 use Rattle.sizes.specs.declared.toiallocator.Entry.{Entry}
 use Rattle.sizes.specs.declared.toiallocator.ToiAllocator.{ToiAllocator}
-use Rattle.sizes.specs.declared.toiallocator.Given.{Given}
-use Rattle.sizes.specs.declared.toiallocator.Allocated.{Allocated}
-use Rattle.sizes.specs.declared.toiallocator.Changed.{Changed}
 use Rattle.sizes.proofs.Tests.{Tested, pass, fail, tested, and_left, none≢some}
 use Rattle.sizes.proofs.Lists.{Hit, Sought, hit, miss, sought, at_take, each_append, each_cut, map_append, map_cut, map_set_same, times_append, times_cut, has_none, has_cut}
 use Rattle.sizes.proofs.Arrays.{getD_shut, take_shut, length_shut}
@@ -119,11 +117,11 @@ module _ (a : ToiAllocator) (v : ValidAllocator a) where
   valid_allocated flag = go (tested (ltb a.entered toi_entries))
     where
       go : Tested (ltb a.entered toi_entries)
-          → ValidAllocator (when◌then◌else◌ {A = Allocated} (ltb a.entered toi_entries) (record { answer = Given.Number a.next; allocator = moved_on (noting flag a) }) (record { answer = Given.Full; allocator = a })).allocator
+          → ValidAllocator (when◌then◌else◌ {A = Allocated} (ltb a.entered toi_entries) (record { answer = Ok a.next; allocator = moved_on (noting flag a) }) (record { answer = Err Because.Full; allocator = a })).allocator
       go (pass e) = rw e (valid_given flag (ltb-true a.entered toi_entries e))
       go (fail e) = rw e v
 
-  accepted : (flag : Bool) → a.entered < toi_entries → allocated_of flag a ≡ record { answer = Given.Number a.next; allocator = moved_on (noting flag a) }
+  accepted : (flag : Bool) → a.entered < toi_entries → allocated_of flag a ≡ record { answer = Ok a.next; allocator = moved_on (noting flag a) }
   unfolding allocated_of
   accepted flag h = rw (lt-ltb a.entered toi_entries h)
 
@@ -267,11 +265,11 @@ search_start a s e =
 
 -- an accepted call of allocate, put together from its steps
 pub given_by : (a : ToiAllocator) (flag : Bool) (b : ToiAllocator) (n : ℕ) → a.entered < toi_entries → b ≡ noting flag a → n ≡ next_toi b.width (held b) b.next
-    → record { answer = Given.Number a.next; allocator = record { entries = b.entries; entered = b.entered; next = n; width = b.width } } ≡ allocated_of flag a
+    → record { answer = Ok a.next; allocator = record { entries = b.entries; entered = b.entered; next = n; width = b.width } } ≡ allocated_of flag a
 unfolding allocated_of moved_on
 given_by a flag b n h e q = rw (q, e, lt-ltb a.entered toi_entries h)
 
-pub full_by : (a : ToiAllocator) (flag : Bool) → toi_entries ≤ a.entered → record { answer = Given.Full; allocator = a } ≡ allocated_of flag a
+pub full_by : (a : ToiAllocator) (flag : Bool) → toi_entries ≤ a.entered → record { answer = Err Because.Full; allocator = a } ≡ allocated_of flag a
 unfolding allocated_of
 full_by a flag h = rw (le-ltb a.entered toi_entries h)
 

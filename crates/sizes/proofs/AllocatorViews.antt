@@ -1,18 +1,15 @@
 -- What each call of the allocator does to the numbers of loose reservations and to those of objects.
 use Rattle.std.proofs.Common.{◌≡◌, ℕ, suc, ◌+◌, ◌<◌, ◌≤◌, Bool, true, false, not, ◌&&◌, eqb, ltb, List, [], ◌∷◌, ◌++◌, map, sym, refl, ap, ◌∙◌, true≢false, append-nil, arith, le-ltb, lt-ltb, eqb-true}
 use mathlib.Core.Bool.{false≢true}
-use Rattle.std.specs.Prelude.{Option, None, Some}
+use Rattle.std.specs.Prelude.{Option, None, Some, Result, Ok, Err}
+use Rattle.sizes.specs.declared.refusal.Refusal.TheVariants as Because
 use borrow.Author.Tests.{not-true}
 use Rattle.sizes.specs.Words.{when◌then◌else◌, maybe, given, keep, has, at, place, collect, one_if, times}
 use Rattle.sizes.specs.Limits.{toi_entries}
-use Rattle.sizes.specs.Allocator.{noted, held, loose_in, bound_in, loose, bound, entry_is, new_allocator, noting, moved_on, allocated_of, bound_at, entry_gone, unchanged, changed, claimed_of, dropped_of, ValidAllocator}
+use Rattle.sizes.specs.Allocator.{noted, held, loose_in, bound_in, loose, bound, entry_is, Allocated, Changed, new_allocator, noting, moved_on, allocated_of, bound_at, entry_gone, unchanged, changed, claimed_of, dropped_of, ValidAllocator}
 use Rattle.sizes.specs.declared.toiallocator.Entry.{Entry}
 use Rattle.sizes.specs.declared.toiallocator.ToiAllocator.{ToiAllocator}
 use Rattle.sizes.specs.Toi.{first_toi, next_toi}
-use Rattle.sizes.specs.declared.toiallocator.Allocated.{Allocated}
-use Rattle.sizes.specs.declared.toiallocator.Changed.{Changed}
-use Rattle.sizes.specs.declared.toiallocator.Given.TheVariants.{Number, Full}
-use Rattle.sizes.specs.declared.toiallocator.Known.TheVariants.{Done}
 use Rattle.sizes.proofs.Tests.{and_left, and_right, if_on, maybe_on}
 use Rattle.sizes.proofs.Lists.{Sought, hit, miss, sought, has_none}
 use Rattle.sizes.proofs.Collects.{keep_absent, adds, collect_append, collect_skip, collect_unset, collect_cons, collect_cut, collect_set, collect_keep}
@@ -80,8 +77,8 @@ allocated_full a flag h = rw (le-ltb a.entered toi_entries h)
 
 -- a call of allocate, case by case: it gives the stored next number, or all entries are in use and nothing changes
 pub allocated_cases : (P : Allocated → Type 0) (flag : Bool) (a : ToiAllocator)
-    → (ltb a.entered toi_entries ≡ true → P (record { answer = Number a.next; allocator = moved_on (noting flag a) }))
-    → (ltb a.entered toi_entries ≡ false → P (record { answer = Full; allocator = a })) → P (allocated_of flag a)
+    → (ltb a.entered toi_entries ≡ true → P (record { answer = Ok a.next; allocator = moved_on (noting flag a) }))
+    → (ltb a.entered toi_entries ≡ false → P (record { answer = Err Because.Full; allocator = a })) → P (allocated_of flag a)
 unfolding allocated_of
 allocated_cases P flag a fresh full = if_on P (ltb a.entered toi_entries) fresh full
 
@@ -224,7 +221,7 @@ released_none a t h = go (place (entry_is t true) (noted a)) refl
     go None p = rw p
     go (Some i) p = absurd (true≢false (ap given (sym p) ∙ loose_found t (noted a) ∙ h))
 
-pub released_some : (a : ToiAllocator) (t : ℕ) → has t (loose a) ≡ true → (dropped_of true t a).answer ≡ Done
+pub released_some : (a : ToiAllocator) (t : ℕ) → has t (loose a) ≡ true → (dropped_of true t a).answer ≡ Ok tt
 unfolding dropped_of
-released_some a t h = maybe_on (λ (x : Changed). x.answer ≡ Done) (place (entry_is t true) (noted a))
+released_some a t h = maybe_on (λ (x : Changed). x.answer ≡ Ok tt) (place (entry_is t true) (noted a))
     (λ e. absurd (false≢true (ap given (sym e) ∙ loose_found t (noted a) ∙ h))) (λ i e. refl)

@@ -103,14 +103,14 @@ module _ (p : Partition) (l e : ℕ) (k : Sbn) where
       all_fit h = rw (lt-ltb _ _ large, lt-ltb _ _ small, lt-ltb _ _ h)
 
   -- what the steps of block_length tell: x and y are the two sizes
-  pub large_told : checked (p.large * e) ≡ Past → block_length p l e k ≡ None
+  pub large_told : checked (p.large * e) ≡ None → block_length p l e k ≡ None
   large_told h = large_past (past _ h)
 
-  module _ (x : ℕ) (large : checked (p.large * e) ≡ Fits x) where
-    pub small_told : checked (p.small * e) ≡ Past → block_length p l e k ≡ None
+  module _ (x : ℕ) (large : checked (p.large * e) ≡ Some x) where
+    pub small_told : checked (p.small * e) ≡ None → block_length p l e k ≡ None
     small_told h = small_past (fitted _ x large).1 (past _ h)
 
-    module _ (y : ℕ) (small : checked (p.small * e) ≡ Fits y) where
+    module _ (y : ℕ) (small : checked (p.small * e) ≡ Some y) where
       start_told : wide ≤ block_start p e k → block_length p l e k ≡ None
       start_told = start_past (fitted _ x large).1 (fitted _ y small).1
 
@@ -118,10 +118,10 @@ module _ (p : Partition) (l e : ℕ) (k : Sbn) where
         begun : block_start p e k ≡ k.0 * x
         begun = rw (fitted _ x large).0 (start_large p k first e)
 
-        pub first_past : checked (k.0 * x) ≡ Past → block_length p l e k ≡ None
+        pub first_past : checked (k.0 * x) ≡ None → block_length p l e k ≡ None
         first_past h = start_told (rw begun (past _ h))
 
-        pub first_fits : (o : ℕ) → checked (k.0 * x) ≡ Fits o → block_length p l e k ≡ reach o x l
+        pub first_fits : (o : ℕ) → checked (k.0 * x) ≡ Some o → block_length p l e k ≡ reach o x l
         first_fits o h =
             let f = fitted _ o h in
             all_fit (fitted _ x large).1 (fitted _ y small).1 (rw begun f.1) ∙ rw (begun, size_large p k first e, f.0, (fitted _ x large).0)
@@ -130,20 +130,20 @@ module _ (p : Partition) (l e : ℕ) (k : Sbn) where
         begun' : block_start p e k ≡ p.nb_a_large * x + (k.0 - p.nb_a_large) * y
         begun' = rw ((fitted _ x large).0, (fitted _ y small).0) (start_small p k later e)
 
-        pub small_offset_past : checked ((k.0 - p.nb_a_large) * y) ≡ Past → block_length p l e k ≡ None
+        pub small_offset_past : checked ((k.0 - p.nb_a_large) * y) ≡ None → block_length p l e k ≡ None
         small_offset_past h = start_told (rw begun' (omega (arith, past _ h)))
 
-        pub large_offset_past : checked (p.nb_a_large * x) ≡ Past → block_length p l e k ≡ None
+        pub large_offset_past : checked (p.nb_a_large * x) ≡ None → block_length p l e k ≡ None
         large_offset_past h = start_told (rw begun' (omega (arith, past _ h)))
 
-        module _ (s t : ℕ) (after : checked ((k.0 - p.nb_a_large) * y) ≡ Fits s) (before : checked (p.nb_a_large * x) ≡ Fits t) where
+        module _ (s t : ℕ) (after : checked ((k.0 - p.nb_a_large) * y) ≡ Some s) (before : checked (p.nb_a_large * x) ≡ Some t) where
           both : block_start p e k ≡ t + s
           both = begun' ∙ rw ((fitted _ s after).0, (fitted _ t before).0)
 
-          pub offset_past : checked (t + s) ≡ Past → block_length p l e k ≡ None
+          pub offset_past : checked (t + s) ≡ None → block_length p l e k ≡ None
           offset_past h = start_told (rw both (past _ h))
 
-          pub later_fits : (o : ℕ) → checked (t + s) ≡ Fits o → block_length p l e k ≡ reach o y l
+          pub later_fits : (o : ℕ) → checked (t + s) ≡ Some o → block_length p l e k ≡ reach o y l
           later_fits o h =
               let f = fitted _ o h in
               all_fit (fitted _ x large).1 (fitted _ y small).1 (rw both f.1) ∙ rw (both, size_small p k later e, f.0, (fitted _ y small).0)
