@@ -29,8 +29,3 @@ pub const WAITING_FDTS: usize = 4;
 
 // The largest FDT id; the next after it is 0.
 pub const LARGEST_FDT_ID: u32 = 0xF_FFFF;
-
-// Where the count of transfers and their total stop.
-pub const LARGEST_COUNT: u32 = 0xFFFF_FFFF;
-
-pub const LARGEST_TOTAL: u64 = 0xFFFF_FFFF_FFFF_FFFF;

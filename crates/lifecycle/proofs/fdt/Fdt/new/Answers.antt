@@ -1,6 +1,0 @@
-use Rattle.lifecycle.specs.FdtCalls.{opening_fdt}
-use Rattle.lifecycle.proofs.fdt.Fdt.new.Goals as goal
-
-pub returns : goal.returns
-unfolding opening_fdt
-returns c = rw (c.new-announcer.ensures, c.no_slot-none.ensures)
