@@ -37,8 +37,8 @@ pub fn nb_source_symbols(p: Partition, k: Sbn) -> u64
 
 impl Open {
     // Has it no symbol left?
-    pub fn is_empty(self, p: Partition) -> bool
-        ensures { result ≡ is_empty p self }
+    pub fn is_empty(&self, p: Partition) -> bool
+        ensures { result ≡ is_empty p self.now }
     {
         nb_source_symbols(p, self.sbn) <= self.esi.0 as u64
     }

@@ -10,19 +10,13 @@ use lifecycle::parts::ends_past;
 pub fn payload<'a>(objects: &'a [u8], fdts: &'a [u8], answer: RunAnswer) -> &'a [u8]
     ensures { result.now ≡ payload_of (record { of_objects = objects.now; of_fdts = fdts.now }) (packet_in answer) }
 {
-    let RunAnswer::Packet(p) = answer else {
+    let Ok(Some(p)) = answer else {
         return &objects[..0];
     };
-    let y = p.symbol;
-    let c = y.payload;
-    if p.is_fdt {
-        if ends_past(fdts.len() as u64, c) {
-            return &objects[..0];
-        }
-        return &fdts[c.start as usize..(c.start + c.size) as usize];
-    }
-    if ends_past(objects.len() as u64, c) {
+    let store = if p.is_fdt { fdts } else { objects };
+    let c = p.symbol.payload;
+    if ends_past(store.len() as u64, c) {
         return &objects[..0];
     }
-    &objects[c.start as usize..(c.start + c.size) as usize]
+    &store[c.start as usize..(c.start + c.size) as usize]
 }
