@@ -48,12 +48,12 @@ pub over_over : {A B C : Type 0} (f : B → C) (g : A → B) (h : A → C) → (
 over_over f g h e None = refl
 over_over f g h e (Some a) = ap Some (e a)
 
+over_zero : (o : Option ℕ) → over (λ k. 0 + k) o ≡ o
+over_zero None = refl
+over_zero (Some k) = ap Some (let r : 0 + k ≡ k = omega arith in r)
+
 pub place_start : {A : Type 0} (ok : A → Bool) (n : ℕ) (l : List A) (long : n ≤ length l) → ahead ok n l long 0 ≡ place ok (take n l)
-place_start ok n l long = same (place ok (take n l))
-  where
-    same : (o : Option ℕ) → over (λ k. 0 + k) o ≡ o
-    same None = refl
-    same (Some k) = ap Some (let r : 0 + k ≡ k = omega arith in r)
+place_start ok n l long = over_zero (place ok (take n l))
 
 pub place_miss : {A : Type 0} (ok : A → Bool) (n : ℕ) (l : List A) (long : n ≤ length l) (i : ℕ) (z : A) → i < n → ok (get_or l i z) ≡ false
     → ahead ok n l long i ≡ ahead ok n l long (i + 1)
@@ -67,7 +67,7 @@ any_is ok [] = refl
 any_is ok (a ∷ l) = ap (λ b. ok a || b) (any_is ok l)
 
 pub position_is : {A : Type 0} (ok : A → Bool) (l : List A) → position ok l ≡ place ok l
-position_is ok l = position_from-zero ok l ∙ from 0 l ∙ same (place ok l)
+position_is ok l = position_from-zero ok l ∙ from 0 l ∙ over_zero (place ok l)
   where
     from : (i : ℕ) (l : List _) → position_from ok i l ≡ over (λ k. i + k) (place ok l)
     from i [] = refl
@@ -75,10 +75,6 @@ position_is ok l = position_from-zero ok l ∙ from 0 l ∙ same (place ok l)
       | true ↦ ap Some (let r : i ≡ i + 0 = omega arith in r)
       | false ↦ from (i + 1) l ∙ sym (over_over (λ k. i + k) suc (λ k. i + 1 + k) (λ k. omega arith) (place ok l))
     ]
-
-    same : (o : Option ℕ) → over (λ k. 0 + k) o ≡ o
-    same None = refl
-    same (Some k) = ap Some (let r : 0 + k ≡ k = omega arith in r)
 
 -- an element of the first n has what each of them has
 pub each_get : {A : Type 0} (P : A → Type 0) (n : ℕ) (l : List A) → n ≤ length l → (i : ℕ) (z : A) → i < n → Each P (take n l) → P (get_or l i z)
