@@ -1,6 +1,6 @@
 -- Laws of the allocator: what each call makes of the entries in use, and that the allocator stays valid.
-use Rattle.std.proofs.Common.{◌≡◌, ℕ, zero, suc, ◌%◌, ◌^◌, ◌<◌, ◌≤◌, Bool, true, false, not, eqb, ltb, List, [], ◌∷◌, ◌++◌, map, length, get_or, set, replicate, sym, refl, ap, ◌∙◌, subst, add-one, arith, lit≤, length-append, length-set, length-take-le, get_or-set_other, take-suc-set, ltb-true, le-ltb, lt-ltb, eqb-true}
-use Rattle.std.specs.Prelude.{Option, None, Some, Result, Ok, Err}
+use Rattle.std.proofs.Common.{◌≡◌, ℕ, zero, suc, ◌%◌, ◌^◌, ◌<◌, ◌≤◌, Bool, true, false, not, eqb, ltb, List, [], ◌∷◌, ◌++◌, map, length, get_or, set, replicate, sym, refl, ap, ◌∙◌, subst, add-one, arith, lit≤, length-append, length-set, length-take-le, get_or-set_other, get_or-take, take-suc-set, ltb-true, le-ltb, lt-ltb, eqb-true}
+use Rattle.std.specs.Prelude.{Option, None, Some, Ok, Err}
 use Rattle.sizes.specs.declared.refusal.Refusal.TheVariants as Because
 use Prim.Native.Nat.{◌∣◌}
 use native.Mathlib.Nat.{mod-mod_of_dvd, dvd_of_mod-eq-zero}
@@ -15,7 +15,7 @@ use Rattle.sizes.specs.declared.toiallocator.ToiMaxLength.TheVariants.{ToiMax16,
 use Rattle.sizes.specs.declared.toiallocator.Entry.{Entry}
 use Rattle.sizes.specs.declared.toiallocator.ToiAllocator.{ToiAllocator}
 use Rattle.sizes.proofs.Tests.{Tested, pass, fail, tested, and_left, none≢some}
-use Rattle.sizes.proofs.Lists.{Hit, Sought, hit, miss, sought, at_take, each_append, each_cut, map_append, map_cut, map_set_same, times_append, times_cut, has_none, has_cut}
+use Rattle.sizes.proofs.Lists.{Hit, Sought, hit, miss, sought, at_take, at_get, each_append, each_cut, map_append, map_cut, map_set_same, times_append, times_cut, has_none, has_cut}
 use Rattle.sizes.proofs.Arrays.{getD_shut, take_shut, length_shut}
 use Rattle.sizes.proofs.ToiLaws.{first_range, next_range, next_free, next_first}
 
@@ -233,6 +233,17 @@ found_inside a t flag i p = go (sought (entry_is t flag) (noted a))
   where
     go : Sought (entry_is t flag) (noted a) → i < a.entered
     go (hit n e h) = let s : n ≡ i = cc in subst (λ k. k < a.entered) s (at_take a.entries a.entered n e h.stands)
+    go (miss q u) = absurd (none≢some (sym q ∙ p))
+
+pub found_toi : (a : ToiAllocator) → ValidAllocator a → (t : ℕ) (flag : Bool) (i : ℕ) (z : Entry) → place (entry_is t flag) (noted a) ≡ Some i → (get_or a.entries i z).toi ≡ t
+found_toi a v t flag i z p = go (sought (entry_is t flag) (noted a))
+  where
+    go : Sought (entry_is t flag) (noted a) → (get_or a.entries i z).toi ≡ t
+    go (hit n e h) =
+        let s : n ≡ i = cc in
+        let q : n < a.entered = at_take a.entries a.entered n e h.stands in
+        let g : get_or a.entries n z ≡ e = sym (get_or-take a.entered a.entries n z q) ∙ (at_get z (noted a) n e h.stands).0 in
+        subst (λ k. (get_or a.entries k z).toi ≡ t) s (ap (λ (x : Entry). x.toi) g ∙ named a v t flag n e h)
     go (miss q u) = absurd (none≢some (sym q ∙ p))
 
 pub claimed_some : (a : ToiAllocator) (t i : ℕ) → place (entry_is t true) (noted a) ≡ Some i → claimed_of t a ≡ changed (bound_at a t i)

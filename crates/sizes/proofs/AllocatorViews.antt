@@ -1,7 +1,7 @@
 -- What each call of the allocator does to the numbers of loose reservations and to those of objects.
 use Rattle.std.proofs.Common.{◌≡◌, ℕ, suc, ◌+◌, ◌<◌, ◌≤◌, Bool, true, false, not, ◌&&◌, eqb, ltb, List, [], ◌∷◌, ◌++◌, map, sym, refl, ap, ◌∙◌, true≢false, append-nil, arith, le-ltb, lt-ltb, eqb-true}
 use mathlib.Core.Bool.{false≢true}
-use Rattle.std.specs.Prelude.{Option, None, Some, Result, Ok, Err}
+use Rattle.std.specs.Prelude.{Option, None, Some, Ok, Err}
 use Rattle.sizes.specs.declared.refusal.Refusal.TheVariants as Because
 use borrow.Author.Tests.{not-true}
 use Rattle.sizes.specs.Words.{when◌then◌else◌, maybe, given, keep, has, at, place, collect, one_if, times}

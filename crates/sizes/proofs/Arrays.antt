@@ -1,7 +1,9 @@
 -- Laws of arrays with a length: a search over the first n elements, a gap that is closed, a change of each element.
-use Rattle.std.proofs.Common.{◌≡◌, ℕ, zero, suc, ◌+◌, ◌-◌, ◌<◌, ◌≤◌, Bool, true, false, List, [], ◌∷◌, ◌++◌, map, length, get_or, take, drop, set, refl, ap, ◌∙◌, add-one, arith, length-set, drop_of_length-le, length-take-le, drop-cons, get_or-take}
+use Rattle.std.proofs.Common.{◌≡◌, ℕ, zero, suc, ◌+◌, ◌-◌, ◌<◌, ◌≤◌, Bool, true, false, cond, ◌||◌, List, [], ◌∷◌, ◌++◌, map, length, get_or, take, drop, set, sym, refl, ap, ◌∙◌, add-one, arith, length-set, drop_of_length-le, length-take-le, drop-cons, get_or-take}
 use Rattle.std.specs.Prelude.{Option, None, Some}
-use Rattle.sizes.specs.Words.{over, any, all, cut, place, shut, Each}
+use Rattle.std.specs.List.{copy_within, list_any, position, position_from}
+use Rattle.std.proofs.lemmas.Iterator.Adapters.{position_from-zero}
+use Rattle.sizes.specs.Words.{when◌then◌else◌, over, any, all, cut, place, shut, Each}
 
 -- a search from the front over the first n elements: what is left to do after i turns comes to the same
 module _ {A : Type 0} (ok : A → Bool) (n : ℕ) (l : List A) (long : n ≤ length l) (i : ℕ) where
@@ -46,18 +48,33 @@ pub over_over : {A B C : Type 0} (f : B → C) (g : A → B) (h : A → C) → (
 over_over f g h e None = refl
 over_over f g h e (Some a) = ap Some (e a)
 
+over_zero : (o : Option ℕ) → over (λ k. 0 + k) o ≡ o
+over_zero None = refl
+over_zero (Some k) = ap Some (let r : 0 + k ≡ k = omega arith in r)
+
 pub place_start : {A : Type 0} (ok : A → Bool) (n : ℕ) (l : List A) (long : n ≤ length l) → ahead ok n l long 0 ≡ place ok (take n l)
-place_start ok n l long = same (place ok (take n l))
-  where
-    same : (o : Option ℕ) → over (λ k. 0 + k) o ≡ o
-    same None = refl
-    same (Some k) = ap Some (let r : 0 + k ≡ k = omega arith in r)
+place_start ok n l long = over_zero (place ok (take n l))
 
 pub place_miss : {A : Type 0} (ok : A → Bool) (n : ℕ) (l : List A) (long : n ≤ length l) (i : ℕ) (z : A) → i < n → ok (get_or l i z) ≡ false
     → ahead ok n l long i ≡ ahead ok n l long (i + 1)
 place_miss ok n l long i z h e =
     rw (next ok n l long i z h, e)
     (over_over (λ k. i + k) suc (λ k. i + 1 + k) (λ k. omega arith) (place ok (drop (i + 1) (take n l))))
+
+-- the library's words for a search come to the same
+pub any_is : {A : Type 0} (ok : A → Bool) (l : List A) → list_any ok l ≡ any ok l
+any_is ok [] = refl
+any_is ok (a ∷ l) = ap (λ b. ok a || b) (any_is ok l)
+
+pub position_is : {A : Type 0} (ok : A → Bool) (l : List A) → position ok l ≡ place ok l
+position_is ok l = position_from-zero ok l ∙ from 0 l ∙ over_zero (place ok l)
+  where
+    from : (i : ℕ) (l : List _) → position_from ok i l ≡ over (λ k. i + k) (place ok l)
+    from i [] = refl
+    from i (a ∷ l) = elim (ok a) as (λ t. cond t (Some i) (position_from ok (i + 1) l) ≡ over (λ k. i + k) (when t then Some 0 else over suc (place ok l))) [
+      | true ↦ ap Some (let r : i ≡ i + 0 = omega arith in r)
+      | false ↦ from (i + 1) l ∙ sym (over_over (λ k. i + k) suc (λ k. i + 1 + k) (λ k. omega arith) (place ok l))
+    ]
 
 -- an element of the first n has what each of them has
 pub each_get : {A : Type 0} (P : A → Type 0) (n : ℕ) (l : List A) → n ≤ length l → (i : ℕ) (z : A) → i < n → Each P (take n l) → P (get_or l i z)
@@ -123,6 +140,26 @@ module _ {A : Type 0} (z : A) where
   shut_end (x ∷ []) zero h = refl
   shut_end (x ∷ y ∷ l) zero h = absurd (omega arith)
   shut_end (x ∷ l) (suc j) h = ap (λ t. x ∷ t) (shut_end l j (omega arith))
+
+  -- the later ones copied one place up, and z put last
+  module _ (l : List A) where
+    front : (x : A) (r : List A) (n m : ℕ) → n ≡ m → length r ≡ m → set (take n r ++ drop m (x ∷ r)) m z ≡ r ++ (z ∷ [])
+    front x [] n zero e h = rw e
+    front x (y ∷ r) n zero e h = absurd (omega arith)
+    front x [] n (suc m) e h = absurd (omega arith)
+    front x (y ∷ r) zero (suc m) e h = absurd (omega arith)
+    front x (y ∷ r) (suc n) (suc m) e h = ap (λ t. y ∷ t) (front y r n m (omega arith) (omega arith))
+
+    moved : (l : List A) (i n m : ℕ) → m ≡ i + n → length l ≡ suc m → set (take i l ++ take n (drop (suc i) l) ++ drop m l) m z ≡ shut z l i
+    moved [] i n m e h = absurd (omega arith)
+    moved (x ∷ l) zero n m e h = front x l n m (omega arith) (omega arith)
+    moved (x ∷ l) (suc i) n zero e h = absurd (omega arith)
+    moved (x ∷ l) (suc i) n (suc m) e h = ap (λ t. x ∷ t) (moved l i n m (omega arith) (omega arith))
+
+    pub shut_by_copy : (i : ℕ) → i < length l → set (copy_within l (i + 1) (length l) i) (length l - 1) z ≡ shut z l i
+    shut_by_copy i h =
+        let e : i + (length l - suc i) ≡ length l - 1 = omega arith in
+        rw (add-one, e) (moved l i (length l - suc i) (length l - 1) (omega arith) (omega arith))
 
   -- a loop that closes the gap at i of an array l whose last place is `last`: m is what it has when place j is the gap
   pub record Closing (last : ℕ) (l : List A) (i : ℕ) (m : List A) (j : ℕ) : Type 0 where

@@ -1,7 +1,7 @@
 -- Laws of block-length: by which tests it is none, and what it is where every number fits.
-use Rattle.std.proofs.Common.{◌≡◌, ℕ, ◌+◌, ◌-◌, ◌*◌, ◌<◌, ◌≤◌, min, ◌∙◌, ⊎_elim, mul_assoc, add-mul, arith, le-ltb, lt-ltb}
+use Rattle.std.proofs.Common.{◌≡◌, ℕ, ◌+◌, ◌-◌, ◌*◌, ◌<◌, ◌≤◌, min, sym, ap, ◌∙◌, ⊎_elim, mul_assoc, add-mul, arith, le-ltb, lt-ltb}
 use mathlib.Core.Bool.{and-false}
-use Rattle.std.specs.Prelude.{None, Some}
+use Rattle.std.specs.Prelude.{Option, None, Some, SomeIff}
 use Rattle.sizes.specs.Limits.{wide}
 use Rattle.sizes.specs.Partition.{fits, checked, reach, symbols_in, first_symbol, block_start, block_size, block_length}
 use Rattle.sizes.proofs.Arithmetic.{below_or}
@@ -31,6 +31,11 @@ module _ (n : ℕ) where
       (λ h. let f = checked_fits h in ((cc), h))
       (λ h. let f = checked_past h in let z : ◌≡◌ {A = ℕ} 0 1 = cc in absurd (omega arith))
       (below_or n wide)
+
+  -- what the library's checked sum or product says
+  pub checked_by : (o : Option ℕ) → SomeIff o (n < wide) n → checked n ≡ o
+  checked_by None h = checked_past (omega (arith, h))
+  checked_by (Some x) h = checked_fits h.0 ∙ ap Some (sym h.1)
 
 -- of a block, what l bytes reach
 module _ (offset size l : ℕ) where

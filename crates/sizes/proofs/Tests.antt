@@ -1,7 +1,7 @@
 -- Facts on tests.
 use Rattle.std.proofs.Common.{◌≡◌, ℕ, Bool, true, false, ◌&&◌, ◌||◌, refl, true≢false, arith}
 use mathlib.Core.Bool.{false≢true}
-use Rattle.std.specs.Prelude.{Option, None, Some}
+use Rattle.std.specs.Prelude.{Option, None, Some, Ok, Err, ok_or}
 use Rattle.sizes.specs.Words.{when◌then◌else◌, maybe}
 
 -- a test is true or false, with the equation
@@ -31,6 +31,15 @@ or_right false b e = e
 
 pub none≢some : {A : Type 0} {a : A} → None ≡ Some a → ⊥
 none≢some e = let z : ◌≡◌ {A = ℕ} 0 1 = cc in omega arith
+
+-- what stood behind an option that was told as a result
+pub ok_told : {A E : Type 0} (o : Option A) (e : E) (a : A) → Ok a ≡ ok_or o e → o ≡ Some a
+ok_told None e a q = cc
+ok_told (Some b) e a q = cc
+
+pub err_told : {A E : Type 0} (o : Option A) (e w : E) → Err w ≡ ok_or o e → (o ≡ None) × (w ≡ e)
+err_told None e w q = (refl, (cc))
+err_told (Some b) e w q = ((cc), (cc))
 
 -- what holds in both cases, of a choice and of what may be there
 pub if_on : {A : Type 0} (P : A → Type 0) (b : Bool) {x y : A} → (b ≡ true → P x) → (b ≡ false → P y) → P (when b then x else y)

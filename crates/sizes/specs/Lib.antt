@@ -1,4 +1,4 @@
--- Read in this order: Words, Limits, Refusals, Place, Partition, PartitionPromises, Toi, Allocator.
+-- Read in this order: Words, Limits, Refusals, Partition, PartitionPromises, Toi, Allocator.
 pub mod Words
 pub mod Limits
 pub mod Refusals

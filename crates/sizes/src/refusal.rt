@@ -1,4 +1,4 @@
-// Why a call is refused: one reason for each row of document 01's table.
+// Why a call is refused: one reason for each row of the table of refusals.
 ghost use Rattle.std.specs.Prelude.{◌≡◌};
 ghost use Rattle.sizes.specs.Refusals.{refusal_number};
 

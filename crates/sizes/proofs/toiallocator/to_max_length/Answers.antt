@@ -13,7 +13,8 @@ returns-in-48 c = rw c.in-48.is
 
 pub returns-in_default : goal.returns-in_default
 returns-in_default c =
-    let r = c.in_default.in_default-own.rest in
     let n = c.args.n in
+    let w = c.args.width in
     let h : n < 2 ^ 64 = search rules in
-    sym (subst (λ w. n % 2 ^ w ≡ n) (sym (width_64 c.args.width c.requires r.0.0.1 r.0.1 r.1)) (mod-eq_of_lt h))
+    let e : w ≡ 64 = width_64 w c.requires (search rules) (search rules) (search rules) in
+    sym (subst (λ w. n % 2 ^ w ≡ n) (sym e) (mod-eq_of_lt h))
