@@ -15,7 +15,7 @@ use mir.Val.{Val, vint}
 use base.Logic.{ent, sep, wand, guard, apply∗}
 use base.Fml.{Fml, fat}
 use types.Logic.{Logic, sem}
-use types.Kit.{◌$◌, !, ‵, ◌⊛◌, raw, given, Some, pick, check, learn, qed, move, keep, use1, use2, rewrite, split, assume, frame, fsplit, fjoin, feq_i, feq_l, done}
+use types.Kit.{◌$◌, !, ‵, ◌⊛◌, raw, given, some, pick, check, learn, qed, move, keep, use1, use2, rewrite, split, assume, frame, fsplit, fjoin, feq_i, feq_l, done}
 use types.SemTy.{cells}
 use types.Share.{arr_parts}
 use denote.RattleType.{RattleType}
@@ -65,7 +65,7 @@ module _ {M : Type 1} {𝓤 : Ura M} (𝓛 : Logic 𝓤) (S P : RattleType) (n d
       → ent 𝓤 (sem 𝓛 (part_at S full_share h b o)) (guard 𝓤 (Is P (get_or xs ix dv) (D.mach (get_or xs ix dv) ∷ [])) (sep 𝓤 (sem 𝓛 (cell (get_or xs ix dv))) (wand 𝓤 (sem 𝓛 (cell y)) (sem 𝓛 (part_at S full_share h' b o)))))
   item lt e cut is' = qed 𝓛 (‵ (part_at S full_share h b o) ∷ []) {P = guard 𝓤 (Is P (get_or xs ix dv) (D.mach (get_or xs ix dv) ∷ [])) (sep 𝓤 (sem 𝓛 (cell (get_or xs ix dv))) (wand 𝓤 (sem 𝓛 (cell y)) (sem 𝓛 (part_at S full_share h' b o))))} (
       use1 𝓛 (‵ (elem off (get_or xs ix dv)) ⊛ raw (wand 𝓤 (sem 𝓛 (elem off y)) (sem 𝓛 (part_at S full_share h' b o)))) (part lt e cut) $ split ! $
-      use1 𝓛 (Some (λ (w : Val). ‵ (fat full_share (lone P.mir) b off w) ⊛ ‵ (P.own_val (get_or xs ix dv) (w ∷ [])))) (part_out 𝓛 P D.one full_share (get_or xs ix dv) b off) $ pick ! (λ w. split ! $ move ! (1 ∷ []) $
+      use1 𝓛 (some (λ (w : Val). ‵ (fat full_share (lone P.mir) b off w) ⊛ ‵ (P.own_val (get_or xs ix dv) (w ∷ [])))) (part_out 𝓛 P D.one full_share (get_or xs ix dv) b off) $ pick ! (λ w. split ! $ move ! (1 ∷ []) $
       peeks ! P (Is P) (shows 𝓛 P) (get_or xs ix dv) (w ∷ []) (λ is. check ! (subst (λ (ws : List Val). Is P (get_or xs ix dv) ws) (D.tells (get_or xs ix dv) (w ∷ []) is) is) $ move ! (1 ∷ 2 ∷ 0 ∷ []) $
       rewrite ! 0 (λ (cv : Val). ‵ (fat full_share (lone P.mir) b off cv)) (ap only (D.tells (get_or xs ix dv) (w ∷ []) is)) refl $ frame ! $
       assume ! (‵ (cell y)) $ owned ! P (Is P) D.makes y (D.mach y ∷ []) (is' (subst (λ (ws : List Val). Is P (get_or xs ix dv) ws) (D.tells (get_or xs ix dv) (w ∷ []) is) is)) $ move ! (1 ∷ 0 ∷ []) $

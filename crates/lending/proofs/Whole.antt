@@ -19,7 +19,7 @@ use base.Fml.{GName, Lft, Share, ftrue, flft, fobs, fbor, fat}
 use prog.Wp.{Calls, Loops, WpFn, Tables}
 use types.Logic.{Logic, sem}
 use contract.Monad.{fact}
-use types.Kit.{‵, raw, given, ◌⊛◌, Some, later, ◌$◌, ◌∵◌, !, qed, by, move, keep, drop, use1, use2, split, join, pick, learn, check, rewrite, fsplit, fsplit3, fjoin, fjoin3, feq_i, suffices, frame, await, done}
+use types.Kit.{‵, raw, given, ◌⊛◌, some, later, ◌$◌, ◌∵◌, !, qed, by, move, keep, drop, use1, use2, split, join, pick, learn, check, rewrite, fsplit, fsplit3, fjoin, fjoin3, feq_i, suffices, frame, await, done}
 use types.Run.{look, store, init, forget, stop, hop, fld, from, load, unit_lit, of_opd, and_then, no_more, assigns, land, returns, enter, alloc1, alloc0, params1, pass1, pass0, free1, free0}
 use types.Part.{whole, sub, look_in}
 use types.SemTy.{Body}
@@ -85,7 +85,7 @@ pub record Pair {M : Type 1} {𝓤 : Ura M} (𝓛 : Logic 𝓤) {S P : RattleTyp
 module _ {M : Type 1} {𝓤 : Ura M} (𝓛 : Logic 𝓤) (R : RattleType) (D : Data 𝓛 R) (q : Share) (y : R.Denot) (b o : ℕ) where
   pub cell_of : ent 𝓤 (sem 𝓛 (part_at R q y b o)) (guard 𝓤 (Is R y (D.mach y ∷ [])) (sem 𝓛 (fat q (lone R.mir) b o (D.mach y))))
   cell_of = qed 𝓛 (‵ (part_at R q y b o) ∷ []) {P = guard 𝓤 (Is R y (D.mach y ∷ [])) (sem 𝓛 (fat q (lone R.mir) b o (D.mach y)))} (
-      use1 𝓛 (Some (λ (w : Val). ‵ (fat q (lone R.mir) b o w) ⊛ ‵ (R.own_val y (w ∷ [])))) (part_out 𝓛 R D.one q y b o) $ pick ! (λ w. split ! $ move ! (1 ∷ []) $
+      use1 𝓛 (some (λ (w : Val). ‵ (fat q (lone R.mir) b o w) ⊛ ‵ (R.own_val y (w ∷ [])))) (part_out 𝓛 R D.one q y b o) $ pick ! (λ w. split ! $ move ! (1 ∷ []) $
       peeks ! R (Is R) (shows 𝓛 R) y (w ∷ []) (λ is. check ! (subst (λ (ws : List Val). Is R y ws) (D.tells y (w ∷ []) is) is) $
       rewrite ! 1 (λ (cv : Val). ‵ (fat q (lone R.mir) b o cv)) (ap only (D.tells y (w ∷ []) is)) refl $ keep ! (1 ∷ []) $ done !)))
 
@@ -175,7 +175,7 @@ module _ (S : RattleType) {M : Type 1} {𝓤 : Ura M} (𝓛 : Logic 𝓤) (D : D
             assigns ! (of_opd ! (load ! (from ! (hop ! (look ! 8 refl) (stop !))) (look ! 0 refl))) (from ! (stop !)) (init ! 4 refl (D.typed h is)) $
             move ! (12 ∷ []) $ use1 𝓛 (raw (done₀_value.pre done₀_called)) (done₀_calls is) $
             calls_from ! fm (raw (done₀_value.pre done₀_called)) (D.mach h ∷ []) (done₀_value.post done₀_called) (known done₀_called) (and_then ! (load ! (from ! (stop !)) (look ! 5 refl)) (no_more !)) (λ v.
-            use1 𝓛 (later (Some (λ (r : S.Denot). (‵ ftrue ⊛ ‵ (S.own_val r (v ∷ []))) ⊛ raw (ensured 𝓛 (done₀_value_ended S) done₀_value_clauses tt (h, tt) tt r)))) (id⊢ 𝓤 _) $ await ! tt $ pick ! (λ r.
+            use1 𝓛 (later (some (λ (r : S.Denot). (‵ ftrue ⊛ ‵ (S.own_val r (v ∷ []))) ⊛ raw (ensured 𝓛 (done₀_value_ended S) done₀_value_clauses tt (h, tt) tt r)))) (id⊢ 𝓤 _) $ await ! tt $ pick ! (λ r.
             split ! $ move ! (1 ∷ []) $ use1 𝓛 (raw (fact 𝓤 (Ens h r))) (done₀_hears r) $ heard ! (Ens h r) (λ e. split ! $ drop ! $
             peeks ! S (Is S) (shows 𝓛 S) r (v ∷ []) (λ gs.
             land ! (from ! (stop !)) (init ! 7 refl (told_typed 𝓛 S D r v gs)) $ drop ! $
@@ -273,7 +273,7 @@ module _ (S P G : RattleType) {M : Type 1} {𝓤 : Ura M} (𝓛 : Logic 𝓤) (D
             assigns ! (of_opd ! (load ! (from ! (hop ! (look ! 10 refl) (stop !))) (look ! 0 refl))) (from ! (stop !)) (init ! 6 refl (D.typed h is)) $
             move ! (14 ∷ []) $ use1 𝓛 (raw (answers₀_value.pre answers₀_called)) (answers₀_calls is) $
             calls_from ! fm (raw (answers₀_value.pre answers₀_called)) (D.mach h ∷ []) (answers₀_value.post answers₀_called) (known answers₀_called) (and_then ! (load ! (from ! (stop !)) (look ! 7 refl)) (no_more !)) (λ v.
-            use1 𝓛 (later (Some (λ (r : G.Denot). (‵ ftrue ⊛ ‵ (G.own_val r (v ∷ []))) ⊛ raw (ensured 𝓛 (answers₀_value_ended S P G) answers₀_value_clauses tt (h, tt) tt r)))) (id⊢ 𝓤 _) $ await ! tt $ pick ! (λ r.
+            use1 𝓛 (later (some (λ (r : G.Denot). (‵ ftrue ⊛ ‵ (G.own_val r (v ∷ []))) ⊛ raw (ensured 𝓛 (answers₀_value_ended S P G) answers₀_value_clauses tt (h, tt) tt r)))) (id⊢ 𝓤 _) $ await ! tt $ pick ! (λ r.
             split ! $ move ! (1 ∷ []) $ use1 𝓛 (raw (fact 𝓤 (Ens h (pr.state r) (pr.answer r)))) (answers₀_hears r) $ heard ! (Ens h (pr.state r) (pr.answer r)) (λ e. split ! $ drop ! $
             peeks ! G (Is G) (shows 𝓛 G) r (v ∷ []) (λ gs.
             land ! (from ! (stop !)) (init ! 9 refl (pr.typed r v gs)) $ drop ! $
@@ -372,7 +372,7 @@ module _ (S P G X₁ : RattleType) {M : Type 1} {𝓤 : Ura M} (𝓛 : Logic �
             assigns ! (of_opd ! (load ! (from ! (hop ! (look ! 12 refl) (stop !))) (look ! 0 refl))) (from ! (stop !)) (init ! 6 refl (D.typed h is)) $
             move ! (16 ∷ []) $ use1 𝓛 (raw (answers₁_value.pre answers₁_called)) (answers₁_calls is) $
             calls_from ! fm (raw (answers₁_value.pre answers₁_called)) (D.mach h ∷ D₁.mach x₁ ∷ []) (answers₁_value.post answers₁_called) (known answers₁_called) (and_then ! (load ! (from ! (stop !)) (look ! 7 refl)) (and_then ! (load ! (from ! (stop !)) (look ! 11 refl)) (no_more !))) (λ v.
-            use1 𝓛 (later (Some (λ (r : G.Denot). (‵ ftrue ⊛ ‵ (G.own_val r (v ∷ []))) ⊛ raw (ensured 𝓛 (answers₁_value_ended S P G X₁) answers₁_value_clauses tt (h, (x₁, tt)) tt r)))) (id⊢ 𝓤 _) $ await ! tt $ pick ! (λ r.
+            use1 𝓛 (later (some (λ (r : G.Denot). (‵ ftrue ⊛ ‵ (G.own_val r (v ∷ []))) ⊛ raw (ensured 𝓛 (answers₁_value_ended S P G X₁) answers₁_value_clauses tt (h, (x₁, tt)) tt r)))) (id⊢ 𝓤 _) $ await ! tt $ pick ! (λ r.
             split ! $ move ! (1 ∷ []) $ use1 𝓛 (raw (fact 𝓤 (Ens h x₁ (pr.state r) (pr.answer r)))) (answers₁_hears r) $ heard ! (Ens h x₁ (pr.state r) (pr.answer r)) (λ e. split ! $ drop ! $
             peeks ! G (Is G) (shows 𝓛 G) r (v ∷ []) (λ gs.
             land ! (from ! (stop !)) (init ! 9 refl (pr.typed r v gs)) $ drop ! $
@@ -471,7 +471,7 @@ module _ (S P G X₁ X₂ : RattleType) {M : Type 1} {𝓤 : Ura M} (𝓛 : Logi
             assigns ! (of_opd ! (load ! (from ! (hop ! (look ! 14 refl) (stop !))) (look ! 0 refl))) (from ! (stop !)) (init ! 6 refl (D.typed h is)) $
             move ! (18 ∷ []) $ use1 𝓛 (raw (answers₂_value.pre answers₂_called)) (answers₂_calls is) $
             calls_from ! fm (raw (answers₂_value.pre answers₂_called)) (D.mach h ∷ D₁.mach x₁ ∷ D₂.mach x₂ ∷ []) (answers₂_value.post answers₂_called) (known answers₂_called) (and_then ! (load ! (from ! (stop !)) (look ! 7 refl)) (and_then ! (load ! (from ! (stop !)) (look ! 13 refl)) (and_then ! (load ! (from ! (stop !)) (look ! 11 refl)) (no_more !)))) (λ v.
-            use1 𝓛 (later (Some (λ (r : G.Denot). (‵ ftrue ⊛ ‵ (G.own_val r (v ∷ []))) ⊛ raw (ensured 𝓛 (answers₂_value_ended S P G X₁ X₂) answers₂_value_clauses tt (h, (x₁, (x₂, tt))) tt r)))) (id⊢ 𝓤 _) $ await ! tt $ pick ! (λ r.
+            use1 𝓛 (later (some (λ (r : G.Denot). (‵ ftrue ⊛ ‵ (G.own_val r (v ∷ []))) ⊛ raw (ensured 𝓛 (answers₂_value_ended S P G X₁ X₂) answers₂_value_clauses tt (h, (x₁, (x₂, tt))) tt r)))) (id⊢ 𝓤 _) $ await ! tt $ pick ! (λ r.
             split ! $ move ! (1 ∷ []) $ use1 𝓛 (raw (fact 𝓤 (Ens h x₁ x₂ (pr.state r) (pr.answer r)))) (answers₂_hears r) $ heard ! (Ens h x₁ x₂ (pr.state r) (pr.answer r)) (λ e. split ! $ drop ! $
             peeks ! G (Is G) (shows 𝓛 G) r (v ∷ []) (λ gs.
             land ! (from ! (stop !)) (init ! 9 refl (pr.typed r v gs)) $ drop ! $
@@ -571,7 +571,7 @@ module _ (S P X₁ : RattleType) {M : Type 1} {𝓤 : Ura M} (𝓛 : Logic 𝓤)
             -- [the token; what the `&` holds; the locals; the requires]
             move ! (10 ∷ []) $ use1 𝓛 (raw (reads₁_value.pre reads₁_called)) (reads₁_calls is) $
             calls_from ! fm (raw (reads₁_value.pre reads₁_called)) (D.mach h ∷ D₁.mach x₁ ∷ []) (reads₁_value.post reads₁_called) (known reads₁_called) (and_then ! (load ! (from ! (stop !)) (look ! 3 refl)) (and_then ! (load ! (from ! (stop !)) (look ! 5 refl)) (no_more !))) (λ v.
-            use1 𝓛 (later (Some (λ (r : P.Denot). (‵ ftrue ⊛ ‵ (P.own_val r (v ∷ []))) ⊛ raw (ensured 𝓛 (reads₁_value_ended S P X₁) reads₁_value_clauses tt (h, (x₁, tt)) tt r)))) (id⊢ 𝓤 _) $ await ! tt $ pick ! (λ r.
+            use1 𝓛 (later (some (λ (r : P.Denot). (‵ ftrue ⊛ ‵ (P.own_val r (v ∷ []))) ⊛ raw (ensured 𝓛 (reads₁_value_ended S P X₁) reads₁_value_clauses tt (h, (x₁, tt)) tt r)))) (id⊢ 𝓤 _) $ await ! tt $ pick ! (λ r.
             split ! $ move ! (1 ∷ []) $ use1 𝓛 (raw (fact 𝓤 (Ens h x₁ r))) (reads₁_hears r) $ heard ! (Ens h x₁ r) (λ e. split ! $ drop ! $
             peeks ! P (Is P) (shows 𝓛 P) r (v ∷ []) (λ gs.
             land ! (from ! (stop !)) (init ! 9 refl (told_typed 𝓛 P E r v gs)) $ drop ! $

@@ -15,7 +15,7 @@ below_or a b = told (ltb a b) refl
 pub one_more : (n b : ℕ) → (n + 1) * b ≡ n * b + b
 one_more n b = add-mul n 1 b ∙ ap (λ (m : ℕ). n * b + m) (one-mul b)
 
-module _ (a b : ℕ) (Some : 0 < b) where
+module _ (a b : ℕ) (some : 0 < b) where
   pub ceil_exact : a % b ≡ 0 → ceil a b ≡ a / b
   unfolding ceil
   ceil_exact e =
@@ -27,7 +27,7 @@ module _ (a b : ℕ) (Some : 0 < b) where
   unfolding ceil
   ceil_more e =
       let h = div-add-mod' a b in
-      let r = mod-lt a Some in
+      let r = mod-lt a some in
       let g = one_more (a / b) b in
       let k = one_more (a / b + 1) b in
       div-eq_of_lt-le b (omega arith) (omega arith)
@@ -43,7 +43,7 @@ module _ (a b : ℕ) (Some : 0 < b) where
   pub ceil_enough : a ≤ ceil a b * b
   unfolding ceil
   ceil_enough =
-      let h : a + (b - 1) < (a + (b - 1)) / b * b + b = lt-div-mul-add Some in
+      let h : a + (b - 1) < (a + (b - 1)) / b * b + b = lt-div-mul-add some in
       omega arith
 
   -- and less than one group is left over
