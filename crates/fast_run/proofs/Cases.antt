@@ -46,14 +46,14 @@ module _ (w now : ℕ) (t : Slot) (x : SenderSession) (busy : x.busy ≡ true) w
   pub waits : (w ≡ 0 → ⊥) → settled_of w now t x ≡ settled_as true RunV.Nothing x
   waits h = goes ∙ ap of_service (still (ap (λ (b : Bool). not b || too_early now (pace_said x.pace)) (ne_eqb w 0 h)))
 
-  module _ (None : w ≡ 0) where
+  module _ (none : w ≡ 0) where
     -- before the due time
     pub early : too_early now (pace_said x.pace) ≡ true → settled_of w now t x ≡ settled_as true RunV.Nothing x
-    early h = goes ∙ ap of_service (still (ap (λ (b : Bool). not b || too_early now (pace_said x.pace)) (eq-eqb w 0 None) ∙ h))
+    early h = goes ∙ ap of_service (still (ap (λ (b : Bool). not b || too_early now (pace_said x.pace)) (eq-eqb w 0 none) ∙ h))
 
     module _ (due : too_early now (pace_said x.pace) ≡ false) (f : Bool) (forced : f ≡ forced_slot t) (r : Read) (read : r ≡ read_of f x.encoder) where
       served : served_of (forced_slot t) (not (eqb w 0)) now x ≡ service_by x r.encoder r.answer
-      served = reads (ap (λ (b : Bool). not b || too_early now (pace_said x.pace)) (eq-eqb w 0 None) ∙ due)
+      served = reads (ap (λ (b : Bool). not b || too_early now (pace_said x.pace)) (eq-eqb w 0 none) ∙ due)
           ∙ ap (λ (b : Bool). service_by x (read_of b x.encoder).encoder (read_of b x.encoder).answer) (sym forced) ∙ ap (λ (z : Read). service_by x z.encoder z.answer) (sym read)
 
       -- the transfer is over

@@ -34,7 +34,7 @@ use Rattle.fast_run.proofs.Cases.{sends}
 
 -- what the test for a packet tells
 record Due (w now : ℕ) (t : Slot) (x : SenderSession) : Type 0 where
-  None : w ≡ 0
+  none : w ≡ 0
   busy : x.busy ≡ true
   listed : t.listed ≡ true
   due : too_early now (pace_said x.pace) ≡ false
@@ -49,7 +49,7 @@ due_told w now t x e =
     let ec = and_left c d e in
     let eb = and_left b t.listed ec in
     record {
-      None = eqb-true w 0 (and_left a x.busy eb);
+      none = eqb-true w 0 (and_left a x.busy eb);
       busy = and_right a x.busy eb;
       listed = and_right b t.listed ec;
       due = not-true (too_early now (pace_said x.pace)) (and_right c d e);
@@ -115,7 +115,7 @@ module _ (w now : ℕ) (t : Slot) (x : SenderSession) (ok : ValidSession x) (b :
 
         quick : Quick w now t x (numbers_by t.file.toi x (GlanceV.One v))
         quick = record {
-          exact = sends w now t x due.busy due.None due.due false (unforced t due.listed) _ (sym steps.read) v.symbol refl
+          exact = sends w now t x due.busy due.none due.due false (unforced t due.listed) _ (sym steps.read) v.symbol refl
               ∙ ap (after (ticked_of x.pace)) (moved_only x.encoder v steps) ∙ ap (λ (p : Pace). after p (with_index (with_esi x.encoder v.place (esi (v.symbol.esi.0 + 1))) (v.place + 1))) (due_only x.pace);
           place = within;
         }
