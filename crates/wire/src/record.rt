@@ -5,6 +5,10 @@ ghost use Rattle.wire.specs.Record.{good, well_named, RecordWrites, RecordReads}
 ghost use Rattle.wire.specs.RecordWords.{first_fields, second_fields, third_fields, last_fields, record_in};
 
 use sizes::numbers::{Esi, Sbn};
+use sizes::refusal::Refusal;
+
+// A record, in bytes.
+const RECORD_SIZE: usize = 28;
 
 // The largest values of fields of 16, 20 and 48 bits.
 const MOST_16: u32 = 0xFFFF;
@@ -29,78 +33,49 @@ pub struct Record {
     pub symbols: u64,
 }
 
-// Has the record been written?
-#[derive(Clone, Copy)]
-pub enum Writing {
-    Done,
-    Refused,
-}
-
-// The record that stands in the bytes, if any does.
-#[derive(Clone, Copy)]
-pub enum Reading {
-    Fields(Record),
-    Refused,
-}
-
 // Writes a record into the first 28 bytes of out, or nothing.
-pub fn write(out: &mut [u8], r: Record) -> Writing
+pub fn write(out: &mut [u8], r: Record) -> Result<(), Refusal>
     ensures { RecordWrites out.old r result out.new }
 {
-    if out.len() < 28 {
-        return Writing::Refused;
-    }
-    if !is_good(r) {
-        return Writing::Refused;
+    if out.len() < RECORD_SIZE || !is_good(r) {
+        return Err(Refusal::Record);
     }
     put_words(out, first(r), second(r), third(r), last(r));
-    Writing::Done
+    Ok(())
 }
 
 // Reads the record that 28 bytes hold.
-pub fn read(bytes: &[u8]) -> Reading
+pub fn read(bytes: &[u8]) -> Result<Record, Refusal>
     ensures { RecordReads bytes.now result }
 {
-    if bytes.len() != 28 {
-        return Reading::Refused;
+    if bytes.len() != RECORD_SIZE {
+        return Err(Refusal::Record);
     }
     let a = word_at(bytes, 0, 8);
     let b = word_at(bytes, 8, 8);
     let c = word_at(bytes, 16, 8);
     let d = word_at(bytes, 24, 4);
     if d % 0x400_0000 != 0 {
-        return Reading::Refused;
+        return Err(Refusal::Record);
     }
     let r = record_in(a, b, c, d);
     if !is_good(r) {
-        return Reading::Refused;
+        return Err(Refusal::Record);
     }
-    Reading::Fields(r)
+    Ok(r)
 }
 
 // Can the record be written?
 fn is_good(r: Record) -> bool
     ensures { result ≡ good r }
 {
-    if MOST_20 < r.fdt_id {
-        return false;
-    }
-    if MOST_16 < r.block.0 {
-        return false;
-    }
-    if MOST_16 < r.symbol.0 {
-        return false;
-    }
-    if MOST_16_OF_64 < r.length {
-        return false;
-    }
-    if MOST_48 < r.total {
-        return false;
-    }
-    if MOST_16_OF_64 < r.symbols {
-        return false;
-    }
-    is_well_named(r)
+    r.fdt_id <= MOST_20
+        && r.block.0 <= MOST_16
+        && r.symbol.0 <= MOST_16
+        && r.length <= MOST_16_OF_64
+        && r.total <= MOST_48
+        && r.symbols <= MOST_16_OF_64
+        && is_well_named(r)
 }
 
 // Has the FDT number 0, and an object another number and no FDT id?
@@ -108,12 +83,10 @@ fn is_well_named(r: Record) -> bool
     ensures { result ≡ well_named r }
 {
     if r.is_fdt {
-        return r.toi == 0;
+        r.toi == 0
+    } else {
+        r.toi != 0 && r.fdt_id == 0
     }
-    if r.toi == 0 {
-        return false;
-    }
-    r.fdt_id == 0
 }
 
 // The record's bits in words. 0x40 is 2^6, 0x400 is 2^10: each zero is 4 bits.
