@@ -1,14 +1,12 @@
 // What the host is told: numbers and plain structs. A refusal has its number of the table; 0 is none.
 ghost use Rattle.std.specs.Prelude.{◌≡◌};
-ghost use Rattle.host_structs.specs.Answers.{given_told, known_told, add_told, publication_told, transfers_told, not_sent, run_told, open_told};
+ghost use Rattle.host_structs.specs.Answers.{numbered_told, refusal_told, transfers_told, not_sent, run_told};
 
-use lifecycle::fdt::{Admission, Publication, Transfers};
 use lifecycle::parts::Part;
 use sender::blockencoder::Symbol;
 use sender::sender::{Packet, RunAnswer};
 use sizes::numbers::{Esi, Sbn};
-use sizes::refusal::{Refusal, number_of};
-use sizes::toiallocator::{Given, Known};
+use sizes::refusal::Refusal;
 
 // An object's number, or the refusal.
 #[repr(C)]
@@ -36,67 +34,36 @@ pub struct Sent {
     pub packet: Packet,
 }
 
-pub fn given_told(a: Given) -> Numbered
-    ensures { result ≡ given_told a }
+// The answer of a call that gives a number.
+pub fn numbered_told(a: Result<u64, Refusal>) -> Numbered
+    ensures { result ≡ numbered_told a }
 {
     match a {
-        Given::Number(toi) => Numbered { refused: 0, toi },
-        Given::Full => Numbered {
-            refused: number_of(Refusal::Full),
+        Ok(toi) => Numbered { refused: 0, toi },
+        Err(why) => Numbered {
+            refused: u32::from(why),
             toi: 0,
         },
     }
 }
 
-pub fn known_told(a: Known) -> u32
-    ensures { result ≡ known_told a }
+// The answer of a call that is done or refused.
+pub fn refusal_told(a: Result<(), Refusal>) -> u32
+    ensures { result ≡ refusal_told a }
 {
     match a {
-        Known::Done => 0,
-        Known::Unknown => number_of(Refusal::NotLoose),
+        Ok(()) => 0,
+        Err(why) => u32::from(why),
     }
 }
 
-pub fn add_told(a: Admission) -> Numbered
-    ensures { result ≡ add_told a }
-{
-    match a {
-        Admission::Toi(toi) => Numbered { refused: 0, toi },
-        Admission::Refused(why) => Numbered {
-            refused: number_of(why),
-            toi: 0,
-        },
-    }
-}
-
-pub fn publication_told(a: Publication) -> u32
-    ensures { result ≡ publication_told a }
-{
-    match a {
-        Publication::Done => 0,
-        Publication::Refused(why) => number_of(why),
-    }
-}
-
-pub fn transfers_told(a: Transfers) -> Counted
+pub fn transfers_told(a: Option<u64>) -> Counted
     ensures { result ≡ transfers_told a }
 {
-    match a {
-        Transfers::Total(total) => Counted {
-            listed: true,
-            total,
-        },
-        Transfers::NotListed => Counted {
-            listed: false,
-            total: 0,
-        },
+    Counted {
+        listed: a.is_some(),
+        total: a.unwrap_or(0),
     }
-}
-
-pub fn open_told(ok: bool) -> u32
-    ensures { result ≡ open_told ok }
-{
-    if ok { 0 } else { number_of(Refusal::SetUp) }
 }
 
 // A run without a packet.
@@ -127,13 +94,13 @@ pub fn run_told(taken: bool, a: RunAnswer) -> Sent
     ensures { result ≡ run_told taken a }
 {
     match a {
-        RunAnswer::Packet(packet) => Sent {
+        Ok(Some(packet)) => Sent {
             refused: 0,
             taken,
             sent: true,
             packet,
         },
-        RunAnswer::Nothing => not_sent(0, taken),
-        RunAnswer::Refused(why) => not_sent(number_of(why), taken),
+        Ok(None) => not_sent(0, taken),
+        Err(why) => not_sent(u32::from(why), taken),
     }
 }
