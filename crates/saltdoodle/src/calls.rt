@@ -25,9 +25,9 @@ pub fn sd_set_up(s: &mut Sender, z: PlainSetup) -> u32
     match set_up(setup_in(z)) {
         Ok(sender) => {
             *s = sender;
-            0
+            refusal_told(Ok(()))
         }
-        Err(why) => u32::from(why),
+        Err(why) => refusal_told(Err(why)),
     }
 }
 
