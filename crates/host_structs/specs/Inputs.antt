@@ -12,8 +12,11 @@ use Rattle.sender.specs.declared.setup.Setup.{Setup}
 use Rattle.host_structs.specs.declared.inputs.PlainObject.{PlainObject}
 use Rattle.host_structs.specs.declared.inputs.PlainSetup.{PlainSetup}
 
+unfoldable pub fdt_carousel_in : Bool → ℕ → Carousel
+fdt_carousel_in from_start interval = when from_start then CarouselV.Interval interval else CarouselV.Delay interval
+
 unfoldable pub carousel_in : Plan → Option Carousel
-carousel_in x = when x.repeats then Some (when x.from_start then CarouselV.Interval x.interval else CarouselV.Delay x.interval) else None
+carousel_in x = when x.repeats then Some (fdt_carousel_in x.from_start x.interval) else None
 
 unfoldable pub target_in : Plan → Target
 target_in x = when x.paced then (when x.by_time then TargetV.By x.target else TargetV.Within x.target) else TargetV.AtOnce
@@ -35,9 +38,6 @@ object_in o = record {
 
 unfoldable pub named_in : PlainObject → Option ℕ
 named_in o = when o.named then Some o.toi else None
-
-unfoldable pub fdt_carousel_in : Bool → ℕ → Carousel
-fdt_carousel_in from_start interval = when from_start then CarouselV.Interval interval else CarouselV.Delay interval
 
 abbrev pub setup_in : PlainSetup → Setup
 setup_in z = record {

@@ -42,6 +42,7 @@ pub struct PlainSetup {
 }
 
 // How an object is sent again, if it is.
+#[tactic(auto, unfolding(crate::specs::Inputs::carousel_in))]
 fn carousel_in(x: Plan) -> Option<Carousel>
     ensures { result ≡ carousel_in x }
 {
@@ -49,6 +50,7 @@ fn carousel_in(x: Plan) -> Option<Carousel>
         .then_some(fdt_carousel_in(x.from_start, x.interval))
 }
 
+#[tactic(auto, unfolding(crate::specs::Inputs::target_in))]
 fn target_in(x: Plan) -> Target
     ensures { result ≡ target_in x }
 {
@@ -59,6 +61,7 @@ fn target_in(x: Plan) -> Target
     }
 }
 
+#[tactic(auto, unfolding(crate::specs::Inputs::own_in))]
 fn own_in(own: bool, z: Sizes) -> Option<Sizes>
     ensures { result ≡ own_in own z }
 {
@@ -83,12 +86,14 @@ pub fn object_in(o: PlainObject) -> Object
 }
 
 // The reservation that is named, if any.
+#[tactic(auto, unfolding(crate::specs::Inputs::named_in))]
 pub fn named_in(o: PlainObject) -> Option<u64>
     ensures { result ≡ named_in o }
 {
     o.named.then_some(o.toi)
 }
 
+#[tactic(auto, unfolding(crate::specs::Inputs::fdt_carousel_in))]
 fn fdt_carousel_in(from_start: bool, interval: u64) -> Carousel
     ensures { result ≡ fdt_carousel_in from_start interval }
 {
@@ -103,11 +108,12 @@ fn fdt_carousel_in(from_start: bool, interval: u64) -> Carousel
 pub fn setup_in(z: PlainSetup) -> Setup
     ensures { result ≡ setup_in z }
 {
+    let priorities = z.priorities;
     Setup {
         sizes: z.sizes,
         window: z.window,
         count: z.count,
-        priorities: z.priorities,
+        priorities,
         width: z.width,
         first_toi: z.first_toi,
         first_fdt_id: z.first_fdt_id,
