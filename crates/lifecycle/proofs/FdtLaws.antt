@@ -1,23 +1,26 @@
 -- Laws of the calls of fdt.rt: what a valid list tells of slots and queue, and what each call comes to in each of its cases.
 use mathlib.Core.Path.{◌≡◌, refl, sym, ◌∙◌, ap, subst}
-use mathlib.Core.Bool.{Bool, true, false, not, and-false, ◌&&◌}
+use mathlib.Core.Bool.{Bool, true, false, not, and-false, ◌&&◌, false≢true}
 use Rattle.std.specs.Prelude.{Option, None, Some, Ok, Err}
 use mathlib.Core.List.{List, [], ◌∷◌}
 use Prim.Native.Nat.{ℕ, ◌+◌, ◌≤◌, ◌<◌}
 use native.Mathlib.Omega.{arith}
 use lib.Dec.{eqb, ltb}
 use borrow.Author.Tests.{eq-eqb, eqb-true}
-use lib.ListN.{get_or, set, get_or-eq_default}
+use lib.ListN.{length, get_or, set, get_or-eq_default}
+use lib.Seq.{get_or-set_same, set-set}
+use Rattle.sizes.specs.declared.refusal.Refusal.{Refusal}
 use Rattle.sizes.specs.declared.refusal.Refusal.TheVariants as Because
-use Rattle.sizes.specs.Words.{has, place, Each, one_if, times}
+use Rattle.sizes.specs.Words.{maybe, given, has, place, Each, one_if, times}
 use Rattle.sizes.specs.Limits.{object_slots, toi_entries}
 use Rattle.sizes.specs.Allocator as Alloc
-use Rattle.sizes.specs.Allocator.{Allocated}
+use Rattle.sizes.specs.Allocator.{Allocated, claimed_of}
 use Rattle.sizes.specs.declared.partition.Sizes.{Sizes}
 use Rattle.sizes.specs.declared.toiallocator.ToiAllocator.{ToiAllocator}
 use Rattle.sizes.proofs.Lists.{found_first, at_take, at_get}
 use Rattle.sizes.proofs.Arrays.{each_get}
 use Rattle.sizes.proofs.Tables.{one_true, one_most, inside}
+use Rattle.sizes.proofs.AllocatorLaws.{loose_found}
 use Rattle.sizes.proofs.AllocatorViews.{allocated_cases}
 use Rattle.lifecycle.proofs.FdtFacts as Facts
 use Rattle.lifecycle.specs.Lifecycle.{expired}
@@ -92,6 +95,10 @@ module _ (f : Fdt) (v : ValidFdt f) where
       let a = v.queued in let b = v.queue_long in
       (g, omega arith, each_get (λ k. k < object_slots) f.queued f.queue (omega arith) n 0 g queue_inside)
 
+-- slot k is written twice
+pub twice : (l : List Slot) (k : ℕ) → k < length l → (v : Slot) (g : Slot → Slot) → set (set l k v) k (g (slot_at (set l k v) k)) ≡ set l k (g v)
+twice l k h v g = set-set l k v (g (slot_at (set l k v) k)) ∙ ap (λ w. set l k (g w)) (get_or-set_same l k v no_slot h)
+
 -- ---- add
 
 module _ (f : Fdt) (q : Request) (z : Sizes) (t : ℕ) where
@@ -109,10 +116,20 @@ module _ (f : Fdt) (q : Request) (z : Sizes) (t : ℕ) where
     unfolding named_of
     named_some k p = rw (h, p)
 
+-- a loose number can be claimed
+pub claimed_done : (a : ToiAllocator) (t : ℕ) → has t (Alloc.loose a) ≡ true → (Alloc.claimed_of t a).answer ≡ Ok tt
+unfolding claimed_of
+claimed_done a t h = go (place (Alloc.entry_is t true) (Alloc.noted a)) (loose_found t (Alloc.noted a) ∙ h)
+  where
+    go : (o : Option ℕ) → given o ≡ true → (maybe (Alloc.unchanged a) (λ i. Alloc.changed (Alloc.bound_at a t i)) o).answer ≡ Ok tt
+    go None e = absurd (false≢true e)
+    go (Some i) e = refl
+
 -- what the allocator says tells whether it is full, and which number it gave
-allocated_full : (flag : Bool) (a : ToiAllocator) → (Alloc.allocated_of flag a).answer ≡ Err Because.Full → ltb a.entered toi_entries ≡ false
-allocated_full flag a = allocated_cases (λ (x : Allocated). x.answer ≡ Err Because.Full → ltb a.entered toi_entries ≡ false) flag a
-    (λ q e. let z : ◌≡◌ {A = ℕ} 0 1 = cc in absurd (omega arith)) (λ q e. q)
+allocated_full : (flag : Bool) (a : ToiAllocator) (why : Refusal) → (Alloc.allocated_of flag a).answer ≡ Err why
+    → (ltb a.entered toi_entries ≡ false) × (why ≡ Because.Full) × ((Alloc.allocated_of flag a).allocator ≡ a)
+allocated_full flag a why = allocated_cases (λ (x : Allocated). x.answer ≡ Err why → (ltb a.entered toi_entries ≡ false) × (why ≡ Because.Full) × (x.allocator ≡ a)) flag a
+    (λ q e. let z : ◌≡◌ {A = ℕ} 0 1 = cc in absurd (omega arith)) (λ q e. (q, cc, refl))
 
 allocated_some : (flag : Bool) (a : ToiAllocator) (t : ℕ) → (Alloc.allocated_of flag a).answer ≡ Ok t → (ltb a.entered toi_entries ≡ true) × (a.next ≡ t)
 allocated_some flag a t = allocated_cases (λ (x : Allocated). x.answer ≡ Ok t → (ltb a.entered toi_entries ≡ true) × (a.next ≡ t)) flag a
@@ -124,9 +141,10 @@ module _ (f : Fdt) (q : Request) (z : Sizes) where
   fresh_none p = rw p
 
   module _ (k : ℕ) (p : place is_free f.slots ≡ Some k) where
-    pub fresh_full : (Alloc.allocated_of false f.tois).answer ≡ Err Because.Full → fresh_of f q z ≡ refuses f Because.Full
+    pub fresh_full : (why : Refusal) → (Alloc.allocated_of false f.tois).answer ≡ Err why
+        → fresh_of f q z ≡ record { answer = Err why; fdt = with_tois f (Alloc.allocated_of false f.tois).allocator }
     unfolding fresh_of
-    fresh_full e = rw (p, allocated_full false f.tois e)
+    fresh_full why e = let r = allocated_full false f.tois why e in rw (p, r.0, r.1, r.2)
 
     pub fresh_some : (t : ℕ) → (Alloc.allocated_of false f.tois).answer ≡ Ok t
         → fresh_of f q z ≡ record { answer = Ok t; fdt = put_of (with_tois f (Alloc.allocated_of false f.tois).allocator) k t q z }
