@@ -1,7 +1,7 @@
 -- Laws of the FDT calls: what they answer, put together from their steps.
 use mathlib.Core.Path.{◌≡◌, refl, sym, ◌∙◌, ap, subst}
 use mathlib.Core.Bool.{Bool, true, false, ◌||◌}
-use Rattle.std.specs.Prelude.{Option, None, Some, Ok, Err}
+use Rattle.std.specs.Prelude.{Option, None, Some}
 use mathlib.Core.List.{[], ◌∷◌, map}
 use lib.Dec.{eqb, leb}
 use Prim.Native.Nat.{ℕ, ◌<◌, ◌≤◌}

@@ -95,7 +95,8 @@ impl Fdt {
         ensures { result ≡ place (queue_startable self.now.slots priority at) (waiting self.now) }
     {
         for i in 0..self.queued {
-            if self.slots[self.queue[i]].file.should_transfer_now(priority, at) {
+            let k = self.queue[i];
+            if self.slots[k].file.should_transfer_now(priority, at) {
                 return Some(i);
             }
         }

@@ -1,6 +1,6 @@
 use mathlib.Core.Path.{sym, ap}
 use Rattle.sizes.specs.Allocator.{Allocated}
-use Rattle.lifecycle.specs.FdtCalls.{Reserved, reserved_of, with_tois}
+use Rattle.lifecycle.specs.FdtCalls.{reserved_of, with_tois}
 use Rattle.lifecycle.proofs.fdt.Fdt.allocate_toi.Goals as goal
 
 pub returns : goal.returns

@@ -20,5 +20,10 @@ returns-then-self-ge-WAITING_FDTS c =
 pub returns : goal.returns
 returns c =
     publish_good c.args.now c.args.c c.args.self.now (sym c.in_ok-test_draft.ensures)
-    ∙ rw (ne_eqb _ _ c.if-c-eq0.false, lt-leb _ _ c.if-self-ge-WAITING_FDTS.false, c.mark_published.ensures, c.publish.ensures,
-    queued_by c.args.now c.args.c c.args.self.now.announcer c.if-self-ge-WAITING_FDTS.false)
+    ∙ rw (
+      ne_eqb _ _ c.if-c-eq0.false,
+      lt-leb _ _ c.if-self-ge-WAITING_FDTS.false,
+      c.mark_published.ensures,
+      c.publish.ensures,
+      queued_by c.args.now c.args.c c.args.self.now.announcer c.if-self-ge-WAITING_FDTS.false,
+    )

@@ -1,6 +1,6 @@
 use mathlib.Core.Path.{sym, ap}
 use Rattle.sizes.specs.Allocator.{Changed}
-use Rattle.lifecycle.specs.FdtCalls.{Released, released_of, with_tois}
+use Rattle.lifecycle.specs.FdtCalls.{released_of, with_tois}
 use Rattle.lifecycle.proofs.fdt.Fdt.release_toi.Goals as goal
 
 pub returns : goal.returns
