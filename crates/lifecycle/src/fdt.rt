@@ -95,7 +95,8 @@ impl Fdt {
         ensures { result ≡ place (queue_startable self.now.slots priority at) (waiting self.now) }
     {
         for i in 0..self.queued {
-            if self.slots[self.queue[i]].file.should_transfer_now(priority, at) {
+            let k = self.queue[i];
+            if self.slots[k].file.should_transfer_now(priority, at) {
                 return Some(i);
             }
         }
@@ -271,8 +272,8 @@ impl Fdt {
         requires { ValidFdt self.old × (k < object_slots) × (n < self.old.queued) }
         ensures { self.new ≡ taken_at now self.old n k }
     {
-        self.slots[k].holders += 1;
         self.slots[k].file.transfer_started(now);
+        self.slots[k].holders += 1;
         close_gap(&mut self.queue, n, 0);
         self.queued -= 1;
     }
@@ -293,8 +294,8 @@ impl Fdt {
         requires { ValidFdt self.old × (k < object_slots) × (self.old.queued < object_slots) × (0 < (slot_at self.old.slots k).holders) }
         ensures { self.new ≡ back_of now self.old k }
     {
-        self.slots[k].holders -= 1;
         self.slots[k].file.transfer_done(now);
+        self.slots[k].holders -= 1;
         self.queue[self.queued] = k;
         self.queued += 1;
     }
