@@ -14,9 +14,6 @@ offset_bounds-self-place c = let h = place_low c.args.self.now c.requires in let
 pub bounds-self-place : goal.bounds-self-place
 bounds-self-place c = let h = place_low c.args.self.now c.requires in let e = c.place-place.ensures in omega arith
 
-pub is_midway-requires : goal.is_midway-requires
-is_midway-requires c = ap (open_at c.args.self.now) c.place-place.ensures
-
 pub shown-requires : goal.shown-requires
 shown-requires c =
     let x = c.args.self.now in

@@ -3,7 +3,7 @@ use Prim.Native.Nat.{◌+◌, ◌*◌}
 use native.Mathlib.Omega.{arith}
 use Rattle.sizes.proofs.Lengths.{before_large, before_small}
 use Rattle.sender.specs.EncoderCalls.{offset_of}
-use Rattle.sender.proofs.Offsets.{OffsetFits, offset_fits}
+use Rattle.sender.proofs.Offsets.{offset_fits}
 use Rattle.sender.proofs.blockencoder.BlockEncoder.offset.Goals as goal
 
 pub overflow_mul-result : goal.overflow_mul-result

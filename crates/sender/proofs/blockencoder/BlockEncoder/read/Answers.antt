@@ -18,9 +18,6 @@ returns-then-self c =
     let x = c.args.self.now in
     subst (Reads c.args.force x) (read_ended c.args.force x c.if-self.true) (read_means c.args.force x c.requires)
 
-pub make_ready-requires : goal.make_ready-requires
-make_ready-requires c = valid_flags c.args.self.now c.requires c.args.self.now.begun c.args.force
-
 pub returns-then-self-eq0 : goal.returns-then-self-eq0
 returns-then-self-eq0 c =
     let f = c.args.force in

@@ -1,4 +1,4 @@
-use mathlib.Core.Path.{refl, sym, ◌∙◌, ap, subst}
+use mathlib.Core.Path.{sym, ◌∙◌, ap, subst}
 use native.Mathlib.Omega.{arith}
 use Rattle.sender.specs.EncoderCalls.{ValidEncoder, filled_of}
 use Rattle.sender.proofs.EncoderLaws.{missing, missing_less, valid_one, filled_more, filled_none}
