@@ -18,14 +18,13 @@ use Rattle.sizes.proofs.Collects.{at_inside}
 use Rattle.sizes.proofs.AllocatorViews.{freed_view}
 use Rattle.lifecycle.specs.FileDesc.{life_of, with_life, reset_life}
 use Rattle.lifecycle.specs.Slots.{no_slot, slot_at, is_listed_as}
-use Rattle.lifecycle.specs.FdtCalls.{file_at, waiting, files, sends, used, waits, ValidFdt, listed_place, transfers_of, unlisted_of, freed_of, removed_of, triggered_of}
+use Rattle.lifecycle.specs.FdtCalls.{Touched, file_at, waiting, files, sends, used, waits, ValidFdt, listed_place, transfers_of, unlisted_of, freed_of, removed_of, triggered_of}
 use Rattle.lifecycle.specs.FdtCalls.{unlisted_slot}
 use Rattle.lifecycle.proofs.FdtMeans.{is_not, Listed, listed_files, Removal, nobody, sent, waited, listed_but, ListRemoves, reset_file, Triggers}
 use Rattle.lifecycle.specs.declared.filedesc.Time.{Time}
 use Rattle.lifecycle.specs.declared.filedesc.FileDesc.{FileDesc}
 use Rattle.lifecycle.specs.declared.slots.Slot.{Slot}
 use Rattle.lifecycle.specs.declared.fdt.Fdt.{Fdt}
-use Rattle.lifecycle.specs.declared.fdt.Touched.{Touched}
 use Rattle.lifecycle.proofs.FdtFacts.{used_listed, used_sends, waits_not, listed_at, waits_at, absent, number_held, queue_place}
 use Rattle.lifecycle.proofs.FdtViews.{differs, map_two, not_in, none_at, no_right, apart, others, in_waiting, waiting_used, at_each, seen_aside, seen_leaves}
 

@@ -1,7 +1,7 @@
 -- Laws of the calls of fdt.rt: what a valid list tells of slots and queue, and what each call comes to in each of its cases.
 use mathlib.Core.Path.{◌≡◌, refl, sym, ◌∙◌, ap, subst}
 use mathlib.Core.Bool.{Bool, true, false, not, and-false, ◌&&◌}
-use Rattle.std.specs.Prelude.{Option, None, Some}
+use Rattle.std.specs.Prelude.{Option, None, Some, Ok, Err}
 use mathlib.Core.List.{List, [], ◌∷◌}
 use Prim.Native.Nat.{ℕ, ◌+◌, ◌≤◌, ◌<◌}
 use native.Mathlib.Omega.{arith}
@@ -12,14 +12,13 @@ use Rattle.sizes.specs.declared.refusal.Refusal.TheVariants as Because
 use Rattle.sizes.specs.Words.{has, place, Each, one_if, times}
 use Rattle.sizes.specs.Limits.{object_slots, toi_entries}
 use Rattle.sizes.specs.Allocator as Alloc
+use Rattle.sizes.specs.Allocator.{Allocated}
 use Rattle.sizes.specs.declared.partition.Sizes.{Sizes}
 use Rattle.sizes.specs.declared.toiallocator.ToiAllocator.{ToiAllocator}
-use Rattle.sizes.specs.declared.toiallocator.Given.TheVariants.{Number, Full}
 use Rattle.sizes.proofs.Lists.{found_first, at_take, at_get}
 use Rattle.sizes.proofs.Arrays.{each_get}
 use Rattle.sizes.proofs.Tables.{one_true, one_most, inside}
 use Rattle.sizes.proofs.AllocatorViews.{allocated_cases}
-use Rattle.sizes.specs.declared.toiallocator.Allocated.{Allocated}
 use Rattle.lifecycle.proofs.FdtFacts as Facts
 use Rattle.lifecycle.specs.Lifecycle.{expired}
 use Rattle.lifecycle.specs.FileDesc.{plan_of, life_of, with_life, reset_life}
@@ -28,25 +27,13 @@ use Rattle.lifecycle.specs.Setup.{bad_blocks}
 use Rattle.lifecycle.specs.FdtCalls.{waiting, sends, waits, ValidFdt, with_tois, with_slots, own_of, bad_part_of, put_of, refuses, named_of, fresh_of, numbered_of, added_of, transfers_of, unlisted_of, freed_of, removed_of, triggered_of, taken_at, taken_of, ended_file, goes_back, back_of, let_go_of, done_of}
 use Rattle.lifecycle.specs.declared.filedesc.Time.{Time}
 use Rattle.lifecycle.specs.declared.slots.Slot.{Slot}
-use Rattle.sizes.specs.Place.{place_said}
-use Rattle.sizes.specs.declared.place.Place.{Place}
-use Rattle.sizes.specs.declared.place.Place.TheVariants.{At, Nothing}
 use Rattle.lifecycle.specs.declared.fdt.Fdt.{Fdt}
-use Rattle.lifecycle.specs.declared.fdt.Named.{Named}
 use Rattle.lifecycle.specs.declared.fdt.Request.{Request}
-use Rattle.lifecycle.specs.declared.fdt.Admission.TheVariants as AdmissionV
 
 -- what holds of each number that stands in a list
 each_in : (P : ℕ → Type 0) (l : List ℕ) → ((k : ℕ) → 1 ≤ times k l → P k) → Each P l
 each_in P [] h = tt
 each_in P (k ∷ l) h = (h k (let r = ap one_if (eq-eqb k k refl) in omega arith), each_in P l (λ j u. h j (omega arith)))
-
--- what a search said, in the words of its contract
-pub said_some : {r : Place} {o : Option ℕ} {n : ℕ} → place_said r ≡ o → r ≡ At n → o ≡ Some n
-said_some e q = sym e ∙ ap place_said q
-
-pub said_none : {r : Place} {o : Option ℕ} → place_said r ≡ o → r ≡ Nothing → o ≡ None
-said_none e q = sym e ∙ ap place_said q
 
 -- ---- what a valid list tells
 
@@ -118,17 +105,17 @@ module _ (f : Fdt) (q : Request) (z : Sizes) (t : ℕ) where
     named_none p = rw (h, p)
 
     pub named_some : (k : ℕ) → place is_free f.slots ≡ Some k
-        → named_of f q z t ≡ record { answer = AdmissionV.Toi t; fdt = put_of (with_tois f (Alloc.claimed_of t f.tois).allocator) k t q z }
+        → named_of f q z t ≡ record { answer = Ok t; fdt = put_of (with_tois f (Alloc.claimed_of t f.tois).allocator) k t q z }
     unfolding named_of
     named_some k p = rw (h, p)
 
 -- what the allocator says tells whether it is full, and which number it gave
-allocated_full : (flag : Bool) (a : ToiAllocator) → (Alloc.allocated_of flag a).answer ≡ Full → ltb a.entered toi_entries ≡ false
-allocated_full flag a = allocated_cases (λ (x : Allocated). x.answer ≡ Full → ltb a.entered toi_entries ≡ false) flag a
+allocated_full : (flag : Bool) (a : ToiAllocator) → (Alloc.allocated_of flag a).answer ≡ Err Because.Full → ltb a.entered toi_entries ≡ false
+allocated_full flag a = allocated_cases (λ (x : Allocated). x.answer ≡ Err Because.Full → ltb a.entered toi_entries ≡ false) flag a
     (λ q e. let z : ◌≡◌ {A = ℕ} 0 1 = cc in absurd (omega arith)) (λ q e. q)
 
-allocated_some : (flag : Bool) (a : ToiAllocator) (t : ℕ) → (Alloc.allocated_of flag a).answer ≡ Number t → (ltb a.entered toi_entries ≡ true) × (a.next ≡ t)
-allocated_some flag a t = allocated_cases (λ (x : Allocated). x.answer ≡ Number t → (ltb a.entered toi_entries ≡ true) × (a.next ≡ t)) flag a
+allocated_some : (flag : Bool) (a : ToiAllocator) (t : ℕ) → (Alloc.allocated_of flag a).answer ≡ Ok t → (ltb a.entered toi_entries ≡ true) × (a.next ≡ t)
+allocated_some flag a t = allocated_cases (λ (x : Allocated). x.answer ≡ Ok t → (ltb a.entered toi_entries ≡ true) × (a.next ≡ t)) flag a
     (λ q e. (q, cc)) (λ q e. let z : ◌≡◌ {A = ℕ} 0 1 = cc in absurd (omega arith))
 
 module _ (f : Fdt) (q : Request) (z : Sizes) where
@@ -137,16 +124,16 @@ module _ (f : Fdt) (q : Request) (z : Sizes) where
   fresh_none p = rw p
 
   module _ (k : ℕ) (p : place is_free f.slots ≡ Some k) where
-    pub fresh_full : (Alloc.allocated_of false f.tois).answer ≡ Full → fresh_of f q z ≡ refuses f Because.Full
+    pub fresh_full : (Alloc.allocated_of false f.tois).answer ≡ Err Because.Full → fresh_of f q z ≡ refuses f Because.Full
     unfolding fresh_of
     fresh_full e = rw (p, allocated_full false f.tois e)
 
-    pub fresh_some : (t : ℕ) → (Alloc.allocated_of false f.tois).answer ≡ Number t
-        → fresh_of f q z ≡ record { answer = AdmissionV.Toi t; fdt = put_of (with_tois f (Alloc.allocated_of false f.tois).allocator) k t q z }
+    pub fresh_some : (t : ℕ) → (Alloc.allocated_of false f.tois).answer ≡ Ok t
+        → fresh_of f q z ≡ record { answer = Ok t; fdt = put_of (with_tois f (Alloc.allocated_of false f.tois).allocator) k t q z }
     unfolding fresh_of
     fresh_some t e = let r = allocated_some false f.tois t e in rw (p, r.0, r.1)
 
-module _ (f : Fdt) (q : Request) (named : Named) where
+module _ (f : Fdt) (q : Request) (named : Option ℕ) where
   pub added_complete : f.complete ≡ true → added_of f q named ≡ refuses f Because.Complete
   unfolding added_of
   added_complete e = rw e
@@ -211,19 +198,18 @@ module _ (t : ℕ) (f : Fdt) where
 
 -- ---- transfers
 
--- what the search of the queue said
-module _ (p now : ℕ) (f : Fdt) {r : Place} (m : place_said r ≡ place (queue_startable f.slots p now) (waiting f)) where
-  pub taken_none : r ≡ Nothing → taken_of p now f ≡ record { answer = Nothing; fdt = f }
+module _ (p now : ℕ) (f : Fdt) where
+  pub taken_none : place (queue_startable f.slots p now) (waiting f) ≡ None → taken_of p now f ≡ record { answer = None; fdt = f }
   unfolding taken_of
-  taken_none q = rw (said_none m q)
+  taken_none e = rw e
 
-  module _ {n : ℕ} (q : r ≡ At n) where
+  module _ {n : ℕ} (e : place (queue_startable f.slots p now) (waiting f) ≡ Some n) where
     pub startable_found : ValidFdt f → (n < f.queued) × (n < object_slots) × (get_or f.queue n 0 < object_slots)
-    startable_found v = queue_found f v (queue_startable f.slots p now) n (said_some m q)
+    startable_found v = queue_found f v (queue_startable f.slots p now) n e
 
-    pub taken_some : taken_of p now f ≡ record { answer = At (get_or f.queue n 0); fdt = taken_at now f n (get_or f.queue n 0) }
+    pub taken_some : taken_of p now f ≡ record { answer = Some (get_or f.queue n 0); fdt = taken_at now f n (get_or f.queue n 0) }
     unfolding taken_of
-    taken_some = rw (said_some m q)
+    taken_some = rw e
 
 module _ (now k : ℕ) (f : Fdt) where
   -- a slot that is not in transfer stays as it is

@@ -13,17 +13,12 @@ use Rattle.sizes.proofs.Tests.{if_on}
 use Rattle.lifecycle.specs.FileDesc.{started_life, done_life}
 use Rattle.lifecycle.specs.Announce.{fdt_plan_of, next_of, queued_of}
 use Rattle.lifecycle.specs.Slots.{no_slot, slot_at}
-use Rattle.lifecycle.specs.FdtCalls.{sends, ValidFdt, completed_of, reserved_of, released_of, own_of, added_of, taken_of, done_of, with_published, publish_of, next_fdt_of, fdt_done_of}
+use Rattle.lifecycle.specs.FdtCalls.{Taken, Added, Published, sends, ValidFdt, completed_of, reserved_of, released_of, own_of, added_of, taken_of, done_of, with_published, publish_of, next_fdt_of, fdt_done_of}
 use Rattle.lifecycle.proofs.FdtMeans.{SentSame, ListAdds, refused, admits, Takes, nothing, takes, is_taken, Ends, idle, back, gone}
 use Rattle.lifecycle.specs.declared.parts.Part.{Part}
 use Rattle.lifecycle.specs.declared.announce.Announcer.{Announcer}
-use Rattle.lifecycle.specs.declared.announce.Draft.{Draft}
 use Rattle.lifecycle.specs.declared.fdt.Fdt.{Fdt}
-use Rattle.lifecycle.specs.declared.fdt.Taken.{Taken}
-use Rattle.lifecycle.specs.declared.fdt.Added.{Added}
-use Rattle.lifecycle.specs.declared.fdt.Published.{Published}
 use Rattle.lifecycle.specs.declared.fdt.Request.{Request}
-use Rattle.lifecycle.specs.declared.fdt.Named.{Named}
 use Rattle.lifecycle.proofs.FdtViews.{at_each, taken_view, done_view, published_at}
 use Rattle.lifecycle.proofs.FdtKeeps.{marks_slot, publish_refusal_of, published_by, publish_as}
 use Rattle.lifecycle.proofs.FdtAdds.{added_view}
@@ -104,7 +99,7 @@ module _ (f : Fdt) (v : ValidFdt f) (now k : ℕ) where
 -- ---- every other call; remove and trigger say it in their views
 
 module _ (f : Fdt) where
-  pub added_sent : ValidFdt f → (q : Request) (named : Named) → SentSame f (added_of f q named).fdt
+  pub added_sent : ValidFdt f → (q : Request) (named : Option ℕ) → SentSame f (added_of f q named).fdt
   added_sent v q named = go (added_of f q named) (added_view f v q named)
     where
       go : (r : Added) → ListAdds f q (own_of q.own f.settings.sizes) named r → SentSame f r.fdt
@@ -134,7 +129,7 @@ module _ (f : Fdt) where
       by (Some why) j = refl
       by None j = announced_sent (queued_of now c f.announcer) j
 
-  pub next_fdt_sent : (now : ℕ) (draft : Draft) → SentSame f (next_fdt_of now draft f).fdt
+  pub next_fdt_sent : (now : ℕ) (draft : Option Part) → SentSame f (next_fdt_of now draft f).fdt
   unfolding next_fdt_of
   next_fdt_sent now draft =
       let n = next_of (fdt_plan_of f.settings.from_start f.settings.interval) f.settings.validity now draft f.announcer in

@@ -23,7 +23,6 @@ use Rattle.lifecycle.specs.FdtCalls.{file_at, waiting, files, sends, used, waits
 use Rattle.lifecycle.specs.FdtCalls.{started_slot, ended_slot}
 use Rattle.lifecycle.proofs.FdtMeans.{Listed, Seen, Takes, nothing, takes, Ends, idle, back, gone, published_file}
 use Rattle.lifecycle.specs.declared.slots.Slot.{Slot}
-use Rattle.sizes.specs.declared.place.Place.TheVariants.{At}
 use Rattle.lifecycle.specs.declared.fdt.Fdt.{Fdt}
 use Rattle.lifecycle.proofs.FdtFacts.{toi_in, toi_used, used_listed, used_sends, waits_not, waits_at, absent, room, number_held, waiting_shut, waiting_push}
 
@@ -159,7 +158,7 @@ module _ (f : Fdt) (v : ValidFdt f) where
       let g = found_first (startable_file p now) (files f) n (startable_place p now ∙ e) in
       let there : at (files f) n ≡ Some (file_at f.slots k) = at_map (file_at f.slots) (waiting f) n ∙ ap (over (file_at f.slots)) h.1.stands in
       let same : g.0 ≡ file_at f.slots k = (let a = g.1.stands in cc) in
-      takes n k (subst (Hit (startable_file p now) (files f) n) same g.1) w (ap At w.here)
+      takes n k (subst (Hit (startable_file p now) (files f) n) same g.1) w (ap Some w.here)
       (subst (λ j. Seen f (cut (files f) n) k (started_slot now (slot_at f.slots k)) (taken_at now f n j)) (sym w.here)
       (seen_leaves f v k w.inn (started_slot now (slot_at f.slots k)) f.tois n h.1.stands)))
 

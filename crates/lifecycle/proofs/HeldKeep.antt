@@ -18,21 +18,15 @@ use Rattle.lifecycle.specs.Parts.{past_store}
 use Rattle.lifecycle.specs.FileDesc.{with_life, reset_life}
 use Rattle.lifecycle.specs.Slots.{no_slot, slot_at, holds_byte, published_slot}
 use Rattle.lifecycle.specs.Announce.{fdt_plan_of, next_of}
-use Rattle.lifecycle.specs.FdtCalls.{sends, used, ValidFdt, with_slots, reserved_of, released_of, own_of, bad_part_of, new_slot, refusal, added_of, listed_place, removed_of, triggered_of, taken_of, done_of, publish_of, next_fdt_of, fdt_done_of}
+use Rattle.lifecycle.specs.FdtCalls.{Added, Touched, Taken, Published, sends, used, ValidFdt, with_slots, reserved_of, released_of, own_of, bad_part_of, new_slot, refusal, added_of, listed_place, removed_of, triggered_of, taken_of, done_of, publish_of, next_fdt_of, fdt_done_of}
 use Rattle.lifecycle.proofs.FdtMeans.{Seen, ListAdds, refused, admits, unknown, full, Removal, nobody, sent, waited, Takes, nothing, takes, Ends, idle, back, gone}
 use Rattle.lifecycle.specs.declared.parts.Part.{Part}
 use Rattle.lifecycle.specs.declared.filedesc.Time.{Time}
 use Rattle.lifecycle.specs.declared.filedesc.Life.{Life}
 use Rattle.lifecycle.specs.declared.filedesc.FileDesc.{FileDesc}
 use Rattle.lifecycle.specs.declared.slots.Slot.{Slot}
-use Rattle.lifecycle.specs.declared.announce.Draft.{Draft}
 use Rattle.lifecycle.specs.declared.fdt.Fdt.{Fdt}
 use Rattle.lifecycle.specs.declared.fdt.Request.{Request}
-use Rattle.lifecycle.specs.declared.fdt.Named.{Named}
-use Rattle.lifecycle.specs.declared.fdt.Added.{Added}
-use Rattle.lifecycle.specs.declared.fdt.Touched.{Touched}
-use Rattle.lifecycle.specs.declared.fdt.Taken.{Taken}
-use Rattle.lifecycle.specs.declared.fdt.Published.{Published}
 use Rattle.lifecycle.proofs.PartLaws.{lies_in}
 use Rattle.lifecycle.proofs.FdtFacts.{used_listed, used_sends, listed_at}
 use Rattle.lifecycle.proofs.FdtViews.{at_each, taken_view, done_view, published_at}
@@ -122,7 +116,7 @@ module _ (P : FileDesc → Type 0) (lives : (o : FileDesc) (x : Life) → P o �
       by None = marked_held
       by (Some why) = h
 
-  pub next_fdt_held : (now : ℕ) (draft : Draft) → EachHeld P (next_fdt_of now draft f).fdt
+  pub next_fdt_held : (now : ℕ) (draft : Option Part) → EachHeld P (next_fdt_of now draft f).fdt
   unfolding next_fdt_of
   next_fdt_held now draft = if_on (EachHeld P) (next_of (fdt_plan_of f.settings.from_start f.settings.interval) f.settings.validity now draft f.announcer).taken (λ e. marked_held) (λ e. h)
 
@@ -131,7 +125,7 @@ module _ (P : FileDesc → Type 0) (lives : (o : FileDesc) (x : Life) → P o �
   fdt_done_held now = h
 
   -- an object that is admitted was refused neither for its sizes nor for its part
-  module _ (q : Request) (named : Named) where
+  module _ (q : Request) (named : Option ℕ) where
     abbrev z : Sizes
     z = own_of q.own f.settings.sizes
 

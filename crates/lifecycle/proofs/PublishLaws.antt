@@ -16,16 +16,12 @@ use Rattle.sizes.proofs.AllocatorViews.{opened_view}
 use Rattle.sizes.proofs.Tests.{if_on}
 use Rattle.lifecycle.specs.Slots.{published_slot}
 use Rattle.lifecycle.specs.Announce as Ann
-use Rattle.lifecycle.specs.Announce.{ValidAnnouncer, fdt_plan_of, queued_of, published_of, next_of}
-use Rattle.lifecycle.specs.FdtCalls.{ValidFdt, with_slots, with_published, with_announcer, publish_of, next_fdt_of, fdt_done_of, opening_fdt}
+use Rattle.lifecycle.specs.Announce.{NextInstance, ValidAnnouncer, fdt_plan_of, queued_of, published_of, next_of}
+use Rattle.lifecycle.specs.FdtCalls.{NextFdt, Published, ValidFdt, with_slots, with_published, with_announcer, publish_of, next_fdt_of, fdt_done_of, opening_fdt}
 use Rattle.lifecycle.specs.declared.parts.Part.{Part}
 use Rattle.lifecycle.specs.declared.filedesc.Plan.{Plan}
 use Rattle.lifecycle.specs.declared.announce.Announcer.{Announcer}
-use Rattle.lifecycle.specs.declared.announce.Draft.{Draft}
-use Rattle.lifecycle.specs.declared.announce.NextInstance.{NextInstance}
 use Rattle.lifecycle.specs.declared.fdt.Fdt.{Fdt}
-use Rattle.lifecycle.specs.declared.fdt.NextFdt.{NextFdt}
-use Rattle.lifecycle.specs.declared.fdt.Published.{Published}
 use Rattle.lifecycle.specs.declared.fdt.Settings.{Settings}
 use Rattle.lifecycle.proofs.AnnounceLaws.{valid_queued, valid_next, valid_done, valid_opening}
 use Rattle.lifecycle.proofs.FdtKeeps.{publish_refusal_of, publishable, published_by, publish_as}
@@ -36,7 +32,7 @@ pub queued_by : (now : ℕ) (c : Part) (a : Announcer) → a.waiting < waiting_f
 unfolding published_of
 queued_by now c a h = rw (lt-ltb a.waiting waiting_fdts h)
 
-module _ (now : ℕ) (draft : Draft) (f : Fdt) (r : Plan) (n : NextInstance)
+module _ (now : ℕ) (draft : Option Part) (f : Fdt) (r : Plan) (n : NextInstance)
     (planned : r ≡ fdt_plan_of f.settings.from_start f.settings.interval) (asked : n ≡ next_of r f.settings.validity now draft f.announcer) where
   -- what the answer is for a next FDT
   abbrev told : NextInstance → NextFdt
@@ -83,7 +79,7 @@ valid_publish now c f v = subst (λ (r : Published). ValidFdt r.fdt) (sym (publi
     by (Some why) e = v
     by None e = valid_announced f (queued_of now c f.announcer) (valid_queued f.announcer v.fdts now c (publishable c f e).room) v
 
-pub valid_next_fdt : (now : ℕ) (draft : Draft) (f : Fdt) → ValidFdt f → ValidFdt (next_fdt_of now draft f).fdt
+pub valid_next_fdt : (now : ℕ) (draft : Option Part) (f : Fdt) → ValidFdt f → ValidFdt (next_fdt_of now draft f).fdt
 unfolding next_fdt_of
 valid_next_fdt now draft f v =
     let r = fdt_plan_of f.settings.from_start f.settings.interval in
