@@ -1,7 +1,7 @@
 -- Laws of the FDT side: what each function makes of it in the definition's words, and that the FDT side stays valid.
 use mathlib.Core.Path.{◌≡◌, refl, sym, ◌∙◌, ap, subst}
 use mathlib.Core.Bool.{Bool, true, false, not, ◌&&◌, ◌||◌, true≢false}
-use Rattle.std.specs.Prelude.{None, Some}
+use Rattle.std.specs.Prelude.{Option, None, Some}
 use mathlib.Core.List.{List, [], ◌∷◌, ◌++◌, map}
 use Prim.Native.Nat.{ℕ, zero, suc, ◌+◌, ◌-◌, ◌≤◌, ◌<◌}
 use native.Mathlib.Nat.{mod-lt}
@@ -23,14 +23,11 @@ use Rattle.lifecycle.specs.Setup.{Setup}
 use Rattle.lifecycle.specs.FileDesc.{time_of, plan_of, life_of, started_life, done_life}
 use Rattle.lifecycle.specs.Fdt as Def
 use Rattle.lifecycle.specs.Fdt.{FdtState, fdt_plan, fdt_parts, bad_fdt_part, queued, seconds, runs_out, needs_new, takes_draft, republished, front_taken, with_current, start_current, next_fdt, fdt_done}
-use Rattle.lifecycle.specs.Announce.{instance_of, waiting_of, state_of, draft_given, next_told, no_instance, ValidAnnouncer, fdt_plan_of, needs_new_of, first_instance, queued_of, front_of, started_instance, done_instance, holding, start_of, republished_of, transferring_of, next_of, current_done, waits_of, held_of, shares_fdt_of, bad_fdt_of, new_announcer}
+use Rattle.lifecycle.specs.Announce.{NextInstance, instance_of, waiting_of, state_of, next_told, no_instance, ValidAnnouncer, fdt_plan_of, needs_new_of, first_instance, queued_of, front_of, started_instance, done_instance, holding, start_of, republished_of, transferring_of, next_of, current_done, waits_of, held_of, shares_fdt_of, bad_fdt_of, new_announcer}
 use Rattle.lifecycle.specs.declared.parts.Part.{Part}
 use Rattle.lifecycle.specs.declared.filedesc.Plan.{Plan}
 use Rattle.lifecycle.specs.declared.announce.Instance.{Instance}
 use Rattle.lifecycle.specs.declared.announce.Announcer.{Announcer}
-use Rattle.lifecycle.specs.declared.announce.NextInstance.{NextInstance}
-use Rattle.lifecycle.specs.declared.announce.Draft.{Draft}
-use Rattle.lifecycle.specs.declared.announce.Draft.TheVariants.{Given, Missing}
 
 -- ---- the plan and the validity
 
@@ -152,13 +149,13 @@ module _ (a : Announcer) (v : ValidAnnouncer a) where
       go (pass e) = rw e (valid_holding (started_instance r now a.current) (and_left a.has_current (may_start (plan_of r) now (life_of a.current.life)) e))
       go (fail e) = rw e v
 
-  pub valid_republished : (validity now : ℕ) (draft : Draft) → ValidAnnouncer (republished_of validity now draft a)
+  pub valid_republished : (validity now : ℕ) (draft : Option Part) → ValidAnnouncer (republished_of validity now draft a)
   unfolding republished_of
   valid_republished validity now draft = go draft (tested (needs_new_of validity now a))
     where
-      go : (d : Draft) → Tested (needs_new_of validity now a) → ValidAnnouncer (republished_of validity now d a)
-      go (Given c) (pass e) = rw e (valid_queued now c (let z = needed_empty validity now a e in omega arith))
-      go Missing (pass e) = rw e v
+      go : (d : Option Part) → Tested (needs_new_of validity now a) → ValidAnnouncer (republished_of validity now d a)
+      go (Some c) (pass e) = rw e (valid_queued now c (let z = needed_empty validity now a e in omega arith))
+      go None (pass e) = rw e v
       go d (fail e) = rw e v
 
   pub valid_done : (now : ℕ) → ValidAnnouncer (current_done now a)
@@ -169,13 +166,13 @@ module _ (a : Announcer) (v : ValidAnnouncer a) where
       go (pass e) = subst (λ b. ValidAnnouncer (when b then holding a (done_instance now a.current) else a)) (sym e) (valid_holding (done_instance now a.current) e)
       go (fail e) = subst (λ b. ValidAnnouncer (when b then holding a (done_instance now a.current) else a)) (sym e) v
 
-pub valid_next : (a : Announcer) → ValidAnnouncer a → (r : Plan) (validity now : ℕ) (draft : Draft) → ValidAnnouncer (next_of r validity now draft a).announcer
+pub valid_next : (a : Announcer) → ValidAnnouncer a → (r : Plan) (validity now : ℕ) (draft : Option Part) → ValidAnnouncer (next_of r validity now draft a).announcer
 unfolding next_of
 valid_next a v r validity now draft = go (tested (transferring_of a))
   where
     go : Tested (transferring_of a) → ValidAnnouncer (next_of r validity now draft a).announcer
     go (pass e) = rw e v
-    go (fail e) = rw e (valid_start (front_of (republished_of validity now draft a)) (valid_front (republished_of validity now draft a) (valid_republished a v validity now draft)) r now (needs_new_of validity now a && given (draft_given draft)))
+    go (fail e) = rw e (valid_start (front_of (republished_of validity now draft a)) (valid_front (republished_of validity now draft a) (valid_republished a v validity now draft)) r now (needs_new_of validity now a && given draft))
 
 -- ---- in the definition's words
 
@@ -341,18 +338,18 @@ module _ (a : Announcer) (v : ValidAnnouncer a) where
           rw e (sym (front_some (state_of a) _ _ (ap (map instance_of) (split_front (omega (arith, n))))))
 
   -- republish
-  pub state_republished : (s : Setup) (validity now : ℕ) (draft : Draft) → s.validity ≡ validity
-      → state_of (republished_of validity now draft a) ≡ republished s now (draft_given draft) (state_of a)
+  pub state_republished : (s : Setup) (validity now : ℕ) (draft : Option Part) → s.validity ≡ validity
+      → state_of (republished_of validity now draft a) ≡ republished s now draft (state_of a)
   unfolding republished_of republished
   state_republished s validity now draft p = go draft (tested (needs_new_of validity now a))
     where
-      go : (d : Draft) → Tested (needs_new_of validity now a) → state_of (republished_of validity now d a) ≡ republished s now (draft_given d) (state_of a)
-      go (Given c) (pass e) = rw (← needs_said s validity now p, e) (state_queued now c (let z = needed_empty validity now a e in omega arith))
-      go Missing (pass e) = rw (← needs_said s validity now p, e)
+      go : (d : Option Part) → Tested (needs_new_of validity now a) → state_of (republished_of validity now d a) ≡ republished s now d (state_of a)
+      go (Some c) (pass e) = rw (← needs_said s validity now p, e) (state_queued now c (let z = needed_empty validity now a e in omega arith))
+      go None (pass e) = rw (← needs_said s validity now p, e)
       go d (fail e) = rw (← needs_said s validity now p, e)
 
-  pub takes_said : (s : Setup) (validity now : ℕ) (draft : Draft) → s.validity ≡ validity
-      → (needs_new_of validity now a && given (draft_given draft)) ≡ takes_draft s now (draft_given draft) (state_of a)
+  pub takes_said : (s : Setup) (validity now : ℕ) (draft : Option Part) → s.validity ≡ validity
+      → (needs_new_of validity now a && given draft) ≡ takes_draft s now draft (state_of a)
   unfolding takes_draft
   takes_said s validity now draft p = rw (needs_said s validity now p)
 
@@ -361,35 +358,35 @@ unfolding next_told
 said_still a = refl
 
 -- the next FDT: taken, state and what starts are the definition's
-pub next_said : (a : Announcer) → ValidAnnouncer a → (s : Setup) (r : Plan) (validity now : ℕ) (draft : Draft) → s.validity ≡ validity → plan_of r ≡ fdt_plan s
-    → next_told (next_of r validity now draft a) ≡ next_fdt s now (draft_given draft) (state_of a)
+pub next_said : (a : Announcer) → ValidAnnouncer a → (s : Setup) (r : Plan) (validity now : ℕ) (draft : Option Part) → s.validity ≡ validity → plan_of r ≡ fdt_plan s
+    → next_told (next_of r validity now draft a) ≡ next_fdt s now draft (state_of a)
 unfolding next_of next_fdt
 next_said a v s r validity now draft e p = go (tested (transferring_of a))
   where
     b : Announcer
     b = republished_of validity now draft a
 
-    go : Tested (transferring_of a) → next_told (next_of r validity now draft a) ≡ next_fdt s now (draft_given draft) (state_of a)
+    go : Tested (transferring_of a) → next_told (next_of r validity now draft a) ≡ next_fdt s now draft (state_of a)
     go (pass q) = rw (← busy_said a, q) (said_still a)
     go (fail q) =
         rw (← busy_said a, q)
-        (starts_said s r now (needs_new_of validity now a && given (draft_given draft)) (front_of b) p
-        ∙ ap (λ f. start_current s now (needs_new_of validity now a && given (draft_given draft)) f) (state_front b (valid_republished a v validity now draft) ∙ ap front_taken (state_republished a v s validity now draft e))
-        ∙ ap (λ t. start_current s now t (front_taken (republished s now (draft_given draft) (state_of a)))) (takes_said a v s validity now draft e))
+        (starts_said s r now (needs_new_of validity now a && given draft) (front_of b) p
+        ∙ ap (λ f. start_current s now (needs_new_of validity now a && given draft) f) (state_front b (valid_republished a v validity now draft) ∙ ap front_taken (state_republished a v s validity now draft e))
+        ∙ ap (λ t. start_current s now t (front_taken (republished s now draft (state_of a)))) (takes_said a v s validity now draft e))
 
 -- the same, part by part
-module _ (a : Announcer) (v : ValidAnnouncer a) (s : Setup) (r : Plan) (validity now : ℕ) (draft : Draft) (e : s.validity ≡ validity) (p : plan_of r ≡ fdt_plan s) where
-  pub next_taken : (next_of r validity now draft a).taken ≡ (next_fdt s now (draft_given draft) (state_of a)).taken
+module _ (a : Announcer) (v : ValidAnnouncer a) (s : Setup) (r : Plan) (validity now : ℕ) (draft : Option Part) (e : s.validity ≡ validity) (p : plan_of r ≡ fdt_plan s) where
+  pub next_taken : (next_of r validity now draft a).taken ≡ (next_fdt s now draft (state_of a)).taken
   unfolding next_told
   next_taken = ap (λ (x : Def.Next). x.taken) (next_said a v s r validity now draft e p)
 
-  pub next_state : state_of (next_of r validity now draft a).announcer ≡ (next_fdt s now (draft_given draft) (state_of a)).state
+  pub next_state : state_of (next_of r validity now draft a).announcer ≡ (next_fdt s now draft (state_of a)).state
   unfolding next_told
   next_state = ap (λ (x : Def.Next). x.state) (next_said a v s r validity now draft e p)
 
   -- what starts is given exactly where the code says so, and is the new current one
   pub next_starts : (when (next_of r validity now draft a).starts then Some (instance_of (next_of r validity now draft a).announcer.current) else None)
-      ≡ (next_fdt s now (draft_given draft) (state_of a)).starts
+      ≡ (next_fdt s now draft (state_of a)).starts
   unfolding next_told
   next_starts = ap (λ (x : Def.Next). x.starts) (next_said a v s r validity now draft e p)
 

@@ -1,6 +1,6 @@
 -- Laws of the object's record: what its fields say in the definition's words.
 use mathlib.Core.Path.{◌≡◌, refl, sym, ◌∙◌, ap}
-use Rattle.std.specs.Prelude.{None, Some}
+use Rattle.std.specs.Prelude.{Option, None, Some}
 use native.Mathlib.Numerals.{add-one}
 use mathlib.Core.Bool.{Bool, true, false, not, ◌&&◌}
 use Prim.Native.Nat.{ℕ, suc, ◌+◌, ◌-◌, ◌≤◌, ◌<◌}
@@ -11,12 +11,12 @@ use Rattle.sizes.proofs.Tests.{Tested, pass, fail, tested}
 use Rattle.lifecycle.specs.Lifecycle.{repeats, is_last}
 use Rattle.lifecycle.specs.Lifecycle as Def
 use Rattle.lifecycle.specs.FileDesc.{time_of, target_of, plan_of, life_of, pace_said, carousel_named, target_named, started_life, done_life, published_life, reset_life, plan_named, with_carousel, with_target, no_pace, duration_of, pace_at, ticked_of}
-use Rattle.sizes.specs.Words.{when◌then◌else◌, maybe, given}
+use Rattle.sizes.specs.Words.{when◌then◌else◌, maybe, over, given}
 use Rattle.sizes.specs.Limits.{wide}
 use Rattle.lifecycle.specs.declared.filedesc.Pace.{Pace}
 use Rattle.lifecycle.specs.declared.filedesc.Time.{Time}
 use Rattle.lifecycle.specs.declared.filedesc.Carousel.{Carousel}
-use Rattle.lifecycle.specs.declared.filedesc.Carousel.TheVariants.{Never, Delay, Interval}
+use Rattle.lifecycle.specs.declared.filedesc.Carousel.TheVariants.{Delay, Interval}
 use Rattle.lifecycle.specs.declared.filedesc.Target.{Target}
 use Rattle.lifecycle.specs.declared.filedesc.Target.TheVariants.{AtOnce, Within, By}
 use Rattle.lifecycle.specs.declared.filedesc.Plan.{Plan}
@@ -98,18 +98,18 @@ life_reset t x = ap (λ f. record { published = x.published; count = x.count; to
     start false = refl
 
 -- what is asked is what the inputs name
-pub plan_as_named : (most : ℕ) (c : Carousel) (t : Target) (stop : Bool)
-    → plan_of (plan_named most c t stop) ≡ record { most = most; carousel = carousel_named c; target = target_named t; stop_at_once = stop }
+pub plan_as_named : (most : ℕ) (c : Option Carousel) (t : Target) (stop : Bool)
+    → plan_of (plan_named most c t stop) ≡ record { most = most; carousel = over carousel_named c; target = target_named t; stop_at_once = stop }
 unfolding plan_named with_carousel with_target
-plan_as_named most Never AtOnce stop = refl
-plan_as_named most Never (Within d) stop = refl
-plan_as_named most Never (By d) stop = refl
-plan_as_named most (Delay i) AtOnce stop = refl
-plan_as_named most (Delay i) (Within d) stop = refl
-plan_as_named most (Delay i) (By d) stop = refl
-plan_as_named most (Interval i) AtOnce stop = refl
-plan_as_named most (Interval i) (Within d) stop = refl
-plan_as_named most (Interval i) (By d) stop = refl
+plan_as_named most None AtOnce stop = refl
+plan_as_named most None (Within d) stop = refl
+plan_as_named most None (By d) stop = refl
+plan_as_named most (Some (Delay i)) AtOnce stop = refl
+plan_as_named most (Some (Delay i)) (Within d) stop = refl
+plan_as_named most (Some (Delay i)) (By d) stop = refl
+plan_as_named most (Some (Interval i)) AtOnce stop = refl
+plan_as_named most (Some (Interval i)) (Within d) stop = refl
+plan_as_named most (Some (Interval i)) (By d) stop = refl
 
 -- the pace is the definition's
 pub pace_view : (r : Plan) (now l e : ℕ) → pace_said (pace_at r now l e) ≡ Def.pace_of (target_of r) now l e

@@ -1,9 +1,9 @@
 // The FDT side: what waits to be announced, what is current, and when a new FDT is needed (src/sender/fdt.rs).
 ghost use Rattle.std.specs.Prelude.{◌≡◌, ◌&&◌, ◌<◌, Bool};
 ghost use Rattle.sizes.specs.Limits.{waiting_fdts};
-ghost use Rattle.sizes.specs.Words.{given};
+ghost use Rattle.sizes.specs.Words.{given, any};
 ghost use Rattle.lifecycle.specs.Fdt.{runs_out};
-ghost use Rattle.lifecycle.specs.Announce.{no_instance, first_instance, started_instance, done_instance, fdt_plan_of, needs_new_of, queued_of, republished_of, published_of, front_of, start_of, transferring_of, next_of, current_done, waits_of, shares_fdt_of, bad_fdt_of, new_announcer, ValidAnnouncer};
+ghost use Rattle.lifecycle.specs.Announce.{no_instance, first_instance, started_instance, done_instance, fdt_plan_of, needs_new_of, queued_of, republished_of, published_of, front_of, start_of, transferring_of, next_of, current_done, waits_of, waiting_of, held_of, shares_fdt_of, bad_fdt_of, new_announcer, ValidAnnouncer};
 
 use crate::filedesc::{Life, Plan, Time, elapsed};
 use crate::parts::{Part, ends_past, shares};
@@ -253,13 +253,20 @@ impl Announcer {
         self.waiting != 0
     }
 
+    // Does a part share a byte with that of an FDT that waits?
+    fn shares_waiting(&self, c: Part) -> bool
+        requires { ValidAnnouncer self.now }
+        ensures { result ≡ any (held_of c) (waiting_of self.now) }
+    {
+        self.queue[..self.waiting].iter().any(|i| shares(c, i.part))
+    }
+
     // Does a part share a byte with that of an FDT that waits, or of the current one?
     pub fn shares_fdt(&self, c: Part) -> bool
         requires { ValidAnnouncer self.now }
         ensures { result ≡ shares_fdt_of c self.now }
     {
-        self.queue[..self.waiting].iter().any(|i| shares(c, i.part))
-            || self.has_current && shares(c, self.current.part)
+        self.shares_waiting(c) || self.has_current && shares(c, self.current.part)
     }
 
     // Is a part no good for an FDT: it ends past the store, or shares a byte with a held one?

@@ -171,12 +171,7 @@ impl Plan {
 
 impl Plan {
     // What is asked, put together from its parts.
-    pub fn new(
-        most: u32,
-        carousel: Option<Carousel>,
-        target: Target,
-        stop_at_once: bool,
-    ) -> Plan
+    pub fn new(most: u32, carousel: Option<Carousel>, target: Target, stop_at_once: bool) -> Plan
         ensures { result ≡ plan_named most carousel target stop_at_once }
     {
         let plain = Plan {
