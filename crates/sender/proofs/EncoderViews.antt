@@ -10,6 +10,7 @@ use lib.Dec.{ltb, eqb, leb}
 use borrow.Author.Tests.{leb-false, ltb-true, lt-ltb}
 use lib.ListN.{length, set, take, length-map, length-set}
 use lib.Seq.{append_snoc, length-take-le, get_or-take, get_or-set_other, take-set-lt, take-suc-set}
+use Rattle.std.specs.List.{list_all}
 use Rattle.sizes.specs.Words.{when◌then◌else◌, all, over, at, cut}
 use Rattle.sizes.specs.Partition.{sbn, esi, symbols_in, first_symbol}
 use Rattle.sizes.specs.declared.partition.Partition.{Partition}
@@ -18,10 +19,9 @@ use Rattle.sizes.proofs.Lists.{map_set, map_append, map_cut, at_map}
 use Rattle.sizes.proofs.Arrays.{take_shut}
 use Rattle.sizes.proofs.Collects.{at_inside}
 use Rattle.definition.specs.Encoder as Def
-use Rattle.sender.specs.EncoderCalls.{open_said, opened_blocks, encoder_of, symbol_said, emitted_said, no_open, open_at, is_empty, ValidEncoder, has_room, one_opened, blocks_opened, filled_of, place_to_visit, stuck, without_of, offset_of, last_of, next_symbol, visit_of, moved_of, emptied_of}
+use Rattle.sender.specs.EncoderCalls.{Read, open_said, opened_blocks, encoder_of, symbol_said, emitted_said, no_open, open_at, is_empty, ValidEncoder, has_room, one_opened, blocks_opened, filled_of, place_to_visit, stuck, without_of, offset_of, last_of, next_symbol, visit_of, moved_of, emptied_of}
 use Rattle.sender.specs.declared.block.Open.{Open}
 use Rattle.sender.specs.declared.blockencoder.BlockEncoder.{BlockEncoder}
-use Rattle.sender.specs.declared.blockencoder.Read.{Read}
 use Rattle.sender.proofs.EncoderLaws.{room_told, missing, missing_less, missing_room, inside_set, valid_one, place_inside}
 
 -- ---- the open blocks
@@ -128,6 +128,11 @@ stuck_some x e = ltb-true 0 x.filled (and_left (ltb 0 x.filled) (is_empty x.cont
 pub stuck_visited : (x : BlockEncoder) → stuck x ≡ true → is_empty x.content.partition (visited x) ≡ true
 unfolding stuck
 stuck_visited x e = and_right (ltb 0 x.filled) (is_empty x.content.partition (visited x)) e
+
+-- the library's word for a test of each block comes to the same
+pub all_is : {A : Type 0} (ok : A → Bool) (l : List A) → list_all ok l ≡ all ok l
+all_is ok [] = refl
+all_is ok (a ∷ l) = ap (λ b. ok a && b) (all_is ok l)
 
 all_map : {A B : Type 0} (ok : B → Bool) (f : A → B) (l : List A) → all ok (map f l) ≡ all (λ a. ok (f a)) l
 all_map ok f [] = refl

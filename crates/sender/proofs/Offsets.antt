@@ -5,7 +5,7 @@ use Prim.Native.Nat.{ℕ, ◌+◌, ◌-◌, ◌*◌, ◌≤◌, ◌<◌}
 use native.Mathlib.Nat.{le-mul_of_pos_right, mul-le-mul_right}
 use native.Mathlib.Omega.{arith}
 use borrow.Author.Tests.{leb-false}
-use Rattle.sizes.specs.Limits.{largest_block}
+use Rattle.sizes.specs.Limits.{wide, largest_block}
 use Rattle.sizes.specs.Partition.{symbols_of, symbols_in, first_symbol}
 use Rattle.sizes.specs.PartitionPromises.{Parted}
 use Rattle.sizes.proofs.Arithmetic.{one_more}
@@ -67,3 +67,14 @@ module _ (c : Content) (s : Sound c) where
       pub offset_inside : offset_of c o < l
       unfolding offset_of
       offset_inside = offset_early
+
+      -- and no number on the way to it passes 64 bits, where f symbols stand before the block
+      pub record OffsetFits (f : ℕ) : Type 0 where
+        pub symbols : f + o.esi.0 ≤ (f + o.esi.0) * e
+        pub bytes : (f + o.esi.0) * e < wide
+
+      pub offset_fits : {f : ℕ} → f ≡ first_symbol c.partition o.sbn → OffsetFits f
+      offset_fits q = record {
+        symbols = rw q rank_low;
+        bytes = rw q (omega (arith, offset_early, s.fits));
+      }
