@@ -23,7 +23,7 @@ use Rattle.lifecycle.specs.declared.slots.Slot.{Slot}
 use Rattle.lifecycle.specs.declared.announce.Instance.{Instance}
 use Rattle.lifecycle.specs.declared.announce.Announcer.{Announcer}
 use Rattle.lifecycle.specs.declared.fdt.Fdt.{Fdt}
-use Rattle.lifecycle.specs.declared.fdt.Published.{Published}
+use Rattle.lifecycle.specs.FdtCalls.{Published}
 use Rattle.lifecycle.proofs.FileDescLaws.{life_published}
 use Rattle.lifecycle.proofs.AnnounceLaws.{waiting_length, state_queued, bad_said}
 use Rattle.lifecycle.proofs.FdtKeeps.{marks_slot, publish_refusal_of, publishable, published_by, publish_as, queued_current}

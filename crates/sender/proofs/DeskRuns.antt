@@ -2,7 +2,7 @@
 use Rattle.sizes.specs.declared.refusal.Refusal.TheVariants as Because
 use mathlib.Core.Path.{◌≡◌, refl, sym, ◌∙◌, ap, subst}
 use mathlib.Core.Bool.{Bool, true, false, ◌&&◌}
-use Rattle.std.specs.Prelude.{None, Some}
+use Rattle.std.specs.Prelude.{Option, None, Some}
 use mathlib.Core.List.{List, [], ◌∷◌, map}
 use Prim.Native.Nat.{ℕ, zero, suc, ◌<◌, ◌≤◌}
 use native.Mathlib.Omega.{arith}
@@ -21,8 +21,6 @@ use Rattle.lifecycle.specs.Setup.{Setup}
 use Rattle.lifecycle.specs.Slots.{no_slot, slot_at}
 use Rattle.lifecycle.specs.Announce.{state_of, waits_of}
 use Rattle.lifecycle.specs.FdtCalls.{sends, taken_of}
-use Rattle.sizes.specs.declared.place.Place.{Place}
-use Rattle.sizes.specs.declared.place.Place.TheVariants as PlaceV
 use Rattle.lifecycle.specs.declared.fdt.Fdt.{Fdt}
 use Rattle.lifecycle.specs.declared.announce.Announcer.{Announcer}
 use Rattle.lifecycle.proofs.AnnounceLaws.{waits_said}
@@ -36,9 +34,9 @@ use Rattle.sender.specs.SenderCalls.{working, desk_of, Agrees, slot_in, ValidSen
 use Rattle.sender.specs.declared.sendersession.SenderSession.{SenderSession}
 use Rattle.sender.specs.declared.sendersession.Outcome.{Outcome}
 use Rattle.sender.specs.declared.sendersession.Outcome.TheVariants.{Idle, Sent, Over}
-use Rattle.sender.specs.declared.sendersession.Turn.{Turn}
+use Rattle.sender.specs.SessionCalls.{Turn}
 use Rattle.sender.specs.declared.sender.Sender.{Sender}
-use Rattle.sender.specs.declared.sender.Running.{Running}
+use Rattle.sender.specs.SenderCalls.{Running}
 use Rattle.sender.proofs.SessionFacts.{stands_runs, has_slot, packet_said, turn_of, SameSide, FileRuns}
 use Rattle.sender.proofs.SessionViews.{ran_means, ran_hand, ran_counts, ran_stands, ran_session}
 use Rattle.sender.proofs.FdtSessionLaws.{fdt_holds_over}
@@ -61,9 +59,9 @@ taken_on_width : (w now : ℕ) (f : Fdt) (x : SenderSession) → (taken_on_of w 
 unfolding taken_on_of
 taken_on_width w now f x = go (taken_of x.priority now f).fdt (taken_of x.priority now f).answer ∙ (taken_keeps f x.priority now).width
   where
-    go : (t : Fdt) (a : Place) → (taken_by w now t x a).fdt.tois.width ≡ t.tois.width
-    go t PlaceV.Nothing = refl
-    go t (PlaceV.At k) = attended_width now t _
+    go : (t : Fdt) (a : Option ℕ) → (taken_by w now t x a).fdt.tois.width ≡ t.tois.width
+    go t None = refl
+    go t (Some k) = attended_width now t _
 
 pub ran_width : (w now : ℕ) (f : Fdt) (x : SenderSession) → (ran_of w now f x).fdt.tois.width ≡ f.tois.width
 unfolding ran_of

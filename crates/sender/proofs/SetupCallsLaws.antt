@@ -1,7 +1,8 @@
 -- Set-up: which numbers are in their ranges, and that the sender which it opens is the definition's opening desk.
 use mathlib.Core.Path.{◌≡◌, refl, sym, ◌∙◌, ap, subst}
-use mathlib.Core.Bool.{Bool, true, false, false≢true}
-use Rattle.std.specs.Prelude.{None, Some}
+use mathlib.Core.Bool.{Bool, true, false, ◌&&◌, false≢true}
+use Rattle.std.specs.Prelude.{None, Some, Ok, Err, is_some}
+use Rattle.sizes.specs.declared.refusal.Refusal.TheVariants as Because
 use mathlib.Core.List.{List, [], ◌∷◌, map}
 use Prim.Native.Nat.{ℕ, zero, suc, ◌≤◌}
 use native.Mathlib.Omega.{arith}
@@ -12,7 +13,7 @@ use borrow.Author.Tests.{eqb-true, eqb-false, ne_eqb, le-leb, le-ltb, leb-true}
 use mir.Syntax.{w32}
 use mir.Val.{Fits}
 use Rattle.sizes.specs.Words.{when◌then◌else◌, all, has, within, collect, one_if, times}
-use Rattle.sizes.specs.Limits.{most_sessions, largest_priority, longest_store}
+use Rattle.sizes.specs.Limits.{most_sessions, largest_window, largest_priority, longest_store, largest_fdt_id}
 use Rattle.sizes.specs.Allocator as Alloc
 use Rattle.sizes.specs.declared.toiallocator.ToiAllocator.{ToiAllocator}
 use Rattle.sizes.specs.declared.toiallocator.ToiMaxLength.{ToiMaxLength}
@@ -20,7 +21,10 @@ use Rattle.sizes.specs.declared.toiallocator.ToiMaxLength.TheVariants.{ToiMax16,
 use Rattle.sizes.proofs.Tests.{Tested, pass, fail, tested}
 use Rattle.sizes.proofs.AllocatorViews.{opened_view, opened_next}
 use Rattle.lifecycle.specs.Lifecycle as Life
-use Rattle.lifecycle.specs.Setup.{sound, widths}
+use Rattle.lifecycle.specs.Setup.{sound, sound_sizes, widths}
+use Rattle.lifecycle.specs.FileDesc.{carousel_named}
+use Rattle.lifecycle.specs.declared.filedesc.Carousel.{Carousel}
+use Rattle.lifecycle.specs.declared.filedesc.Carousel.TheVariants as CarouselV
 use Rattle.lifecycle.specs.FdtCalls.{sends, used, opening_fdt}
 use Rattle.lifecycle.specs.FdtCalls.{ValidFdt}
 use Rattle.lifecycle.specs.declared.slots.Slot.{Slot}
@@ -35,14 +39,15 @@ use Rattle.sender.proofs.SessionFacts.{idle_stands}
 use Rattle.sender.specs.SessionCalls.{idle_of, object_of, session_of}
 use Rattle.sender.specs.SessionMeans.{Stands, fdt_carousel_of}
 use Rattle.sender.specs.SenderCalls.{desk_of, Agrees, ValidSender, slot_in}
-use Rattle.sender.specs.SetupCalls.{carousel_said, priorities_said, setup_said, width_said, is_interval, interval_in, settings_of, priority_at, opening_sender, plain, refused_of, opened_of, Opens}
+use Rattle.sender.specs.SetupCalls.{priorities_said, setup_said, width_said, is_interval, interval_in, settings_of, priority_at, opening_sender, opened_of, Opens}
 use Rattle.sender.specs.declared.sendersession.SenderSession.{SenderSession}
 use Rattle.sender.specs.declared.setup.Setup.{Setup}
-use Rattle.sender.specs.declared.setup.FdtCarousel.{FdtCarousel}
-use Rattle.sender.specs.declared.setup.FdtCarousel.TheVariants as CarouselV
-use Rattle.sender.specs.declared.setup.Width.TheVariants as WidthV
 
 -- ---- every number in its range
+
+and_true : (a : Bool) → (a && true) ≡ a
+and_true true = refl
+and_true false = refl
 
 -- every priority of 32 bits is in its range
 small_all : (n : ℕ) (l : List ℕ) → ((i : ℕ) → Fits w32 (get_or l i 0)) → all (λ p. leb p largest_priority) (take n l) ≡ true
@@ -73,6 +78,17 @@ module _ (z : Setup) where
       go (pass e) = rw e (small_all z.count z.priorities h)
       go (fail e) = rw e (zeros_all z.count)
 
+-- test by test, where every priority is in its range
+pub sound_by : (z : Setup) → ((i : ℕ) → Fits w32 (get_or z.priorities i 0)) → sound (setup_said z)
+    ≡ (within 1 most_sessions (length (priorities_said z)) && within 1 largest_window z.window && sound_sizes z.sizes
+    && leb z.object_store longest_store && leb z.fdt_store longest_store && has z.width widths && leb z.first_fdt_id largest_fdt_id)
+unfolding sound
+sound_by z h =
+    let a = within 1 most_sessions (length (priorities_said z)) in
+    let first : (a && all (λ p. leb p largest_priority) (priorities_said z)) ≡ a = ap (λ b. a && b) (small_named z h) ∙ and_true a in
+    ap (λ b. b && within 1 largest_window z.window && sound_sizes z.sizes
+    && leb z.object_store longest_store && leb z.fdt_store longest_store && has z.width widths && leb z.first_fdt_id largest_fdt_id) first
+
 -- ---- widths
 
 bits_has : (w : ToiMaxLength) → has (Alloc.bits w) widths ≡ true
@@ -81,7 +97,7 @@ bits_has ToiMax32 = refl
 bits_has ToiMax48 = refl
 bits_has ToiMax64 = refl
 
-bits_said : (w : ToiMaxLength) → width_said (Alloc.bits w) ≡ WidthV.Is w
+bits_said : (w : ToiMaxLength) → width_said (Alloc.bits w) ≡ Some w
 unfolding width_said
 bits_said ToiMax16 = refl
 bits_said ToiMax32 = refl
@@ -91,7 +107,7 @@ bits_said ToiMax64 = refl
 -- a number is one of the four widths, or none of them
 data Wide (n : ℕ) : Type 0 where
   one : (w : ToiMaxLength) → n ≡ Alloc.bits w → Wide n
-  other : has n widths ≡ false → width_said n ≡ WidthV.Bad → Wide n
+  other : has n widths ≡ false → width_said n ≡ None → Wide n
 
 module _ (n : ℕ) where
   wide : Wide n
@@ -108,26 +124,34 @@ module _ (n : ℕ) where
       go (fail p) (fail q) (fail r) (pass s) = one ToiMax64 (eqb-true n 64 s)
       go (fail p) (fail q) (fail r) (fail s) = other (rw (turned 16 p, turned 32 q, turned 48 r, turned 64 s)) (rw (p, q, r, s))
 
-  unlike : (w : ToiMaxLength) → WidthV.Is w ≡ WidthV.Bad → ⊥
-  unlike w e = let x : ◌≡◌ {A = ℕ} 0 1 = cc in omega arith
+  unlike : (w : ToiMaxLength) → Some w ≡ None → ⊥
+  unlike w e = cc
 
   -- what the code finds
-  pub width_bad : width_said n ≡ WidthV.Bad → has n widths ≡ false
+  pub width_bad : width_said n ≡ None → has n widths ≡ false
   width_bad e = go wide
     where
       go : Wide n → has n widths ≡ false
       go (one w q) = absurd (unlike w (sym (ap width_said q ∙ bits_said w) ∙ e))
       go (other h q) = h
 
-  pub width_is : (w : ToiMaxLength) → width_said n ≡ WidthV.Is w → n ≡ Alloc.bits w
+  pub width_is : (w : ToiMaxLength) → width_said n ≡ Some w → n ≡ Alloc.bits w
   width_is w e = go wide
     where
       go : Wide n → n ≡ Alloc.bits w
       go (one v q) = let r = sym (ap width_said q ∙ bits_said v) ∙ e in let x : v ≡ w = cc in q ∙ ap Alloc.bits x
       go (other h q) = absurd (unlike w (sym e ∙ q))
 
-  pub width_has : (w : ToiMaxLength) → width_said n ≡ WidthV.Is w → has n widths ≡ true
+  pub width_has : (w : ToiMaxLength) → width_said n ≡ Some w → has n widths ≡ true
   width_has w e = ap (λ m. has m widths) (width_is w e) ∙ bits_has w
+
+  -- is it one of the four
+  pub width_given : is_some (width_said n) ≡ has n widths
+  width_given = go wide
+    where
+      go : Wide n → is_some (width_said n) ≡ has n widths
+      go (one w q) = ap is_some (ap width_said q ∙ bits_said w) ∙ sym (ap (λ m. has m widths) q ∙ bits_has w)
+      go (other h q) = ap is_some q ∙ sym h
 
   -- one of the four
   a_wide : has n widths ≡ true → Alloc.Width n
@@ -233,7 +257,7 @@ module _ (z : Setup) (long : length z.priorities ≡ most_sessions) (ok : sound 
         validity = ap (λ (x : Settings). x.validity) x;
       }
     where
-      by_carousel : (k : FdtCarousel) → carousel_said k ≡ (when is_interval k then Life.Carousel.interval (interval_in k) else Life.Carousel.delay (interval_in k))
+      by_carousel : (k : Carousel) → carousel_named k ≡ (when is_interval k then Life.Carousel.interval (interval_in k) else Life.Carousel.delay (interval_in k))
       by_carousel (CarouselV.Delay t) = refl
       by_carousel (CarouselV.Interval t) = refl
 
@@ -270,26 +294,18 @@ module _ (z : Setup) (long : length z.priorities ≡ most_sessions) (ok : sound 
 
 -- ---- set-up
 
-pub plain_sound : sound (setup_said plain) ≡ true
-plain_sound = by_id (setup_said plain) (record { sessions = refl; window = refl; sizes = sizes_sound plain.sizes refl refl; object_store = refl; fdt_store = refl; width = refl }) refl
-
 module _ (z : Setup) where
-  pub opens_not : sound (setup_said z) ≡ false → Opens z refused_of
+  pub opens_not : sound (setup_said z) ≡ false → Opens z (Err Because.SetUp)
   unfolding opened_of Def.set_up
-  opens_not q = record {
-    exact = rw q;
-    means = rw q;
-    agrees = λ h. absurd (false≢true h);
-    valid = (opening_kept plain refl plain_sound).valid;
-  }
+  opens_not q = record { exact = rw q; means = rw q; agrees = tt; valid = tt }
 
-  pub opens : length z.priorities ≡ most_sessions → sound (setup_said z) ≡ true → Opens z (record { ok = true; sender = opening_sender z })
+  pub opens : length z.priorities ≡ most_sessions → sound (setup_said z) ≡ true → Opens z (Ok (opening_sender z))
   unfolding opened_of Def.set_up
   opens long q =
       let k = opening_kept z long q in
       record {
         exact = rw q;
         means = rw q (ap (λ x. (Def.Answer.done, Some x)) (sym k.means));
-        agrees = λ h. k.agrees;
+        agrees = k.agrees;
         valid = k.valid;
       }

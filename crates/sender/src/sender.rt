@@ -183,9 +183,7 @@ impl Sender {
                 answer: Err(why),
             };
         }
-        let r = self
-            .fdt_session
-            .run(&mut self.fdt, self.window, now, draft);
+        let r = self.fdt_session.run(&mut self.fdt, self.window, now, draft);
         FdtAnswer {
             taken: r.taken,
             answer: run_answer(r.answer, true, 0, self.fdt_session.id),

@@ -52,8 +52,8 @@ fn width_of(n: u64) -> Option<ToiMaxLength>
 }
 
 // Is every number in its range? Every u32 is a priority.
-fn is_sound(z: &Setup) -> bool
-    ensures { result ≡ sound (setup_said z.now) }
+fn is_sound(z: Setup) -> bool
+    ensures { result ≡ sound (setup_said z) }
 {
     is_within(1, LARGEST_NAMED_COUNT, z.count)
         && is_within(1, LARGEST_NAMED_WINDOW, z.window)
@@ -132,7 +132,7 @@ pub fn set_up(z: Setup) -> Result<Sender, Refusal>
     ensures { Opens z result }
 {
     let w = width_of(z.width).ok_or(Refusal::SetUp)?;
-    if !is_sound(&z) {
+    if !is_sound(z) {
         return Err(Refusal::SetUp);
     }
     Ok(open(&z, w))
