@@ -1,7 +1,6 @@
 -- Laws of the middle layer; the layer above cites them.
 pub mod SetupLaws
 pub mod PartLaws
-pub mod Chains
 pub mod FileDescLaws
 pub mod AnnounceLaws
 pub mod FdtMeans

@@ -3,7 +3,7 @@ use Rattle.std.specs.Prelude.{position}
 use Rattle.std.proofs.lemmas.Iterator.{YieldsList-from_slice}
 use Rattle.std.proofs.lemmas.Iterator.Search.{position_from_yields_List}
 use Rattle.lifecycle.specs.Slots.{is_free}
-use Rattle.lifecycle.proofs.Chains.{position_is}
+use Rattle.sizes.proofs.Arrays.{position_is}
 use Rattle.lifecycle.proofs.slots.free_slot.Goals as goal
 
 pub returns : goal.returns

@@ -3,7 +3,7 @@ use Rattle.std.specs.List.{list_any}
 use Rattle.std.proofs.lemmas.Iterator.{YieldsList-from_slice}
 use Rattle.std.proofs.lemmas.Iterator.Search.{any_from_yields_List}
 use Rattle.lifecycle.specs.Announce.{held_of, waiting_of}
-use Rattle.lifecycle.proofs.Chains.{any_is}
+use Rattle.sizes.proofs.Arrays.{any_is}
 use Rattle.lifecycle.proofs.announce.Announcer.shares_waiting.Goals as goal
 
 pub returns : goal.returns
