@@ -15,12 +15,11 @@ use Rattle.lifecycle.proofs.TakesKeep.{taken_numbers, done_numbers}
 use Rattle.definition.specs.FdtSession.{Packet}
 use Rattle.definition.specs.Session as Def
 use Rattle.sender.specs.EncoderCalls.{symbol_said}
-use Rattle.sender.specs.SessionCalls.{session_of, Holds, Runs, idle_of}
+use Rattle.sender.specs.SessionCalls.{session_of, Holds, Runs, idle_of, Turn}
 use Rattle.sender.specs.SessionMeans.{Stands, queue_of}
 use Rattle.sender.specs.declared.sendersession.SenderSession.{SenderSession}
 use Rattle.sender.specs.declared.sendersession.Outcome.{Outcome}
 use Rattle.sender.specs.declared.sendersession.Outcome.TheVariants.{Idle, Sent, Over}
-use Rattle.sender.specs.declared.sendersession.Turn.{Turn}
 
 -- ---- between two calls
 

@@ -24,19 +24,14 @@ use Rattle.lifecycle.proofs.FdtSent.{done_sent}
 use Rattle.lifecycle.proofs.TakesKeep.{goes_back_as, done_other}
 use Rattle.definition.specs.Encoder as DefEncoder
 use Rattle.definition.specs.Session as Def
-use Rattle.sender.specs.EncoderCalls.{encoder_of, symbol_said, emitted_said, read_of, Reads}
-use Rattle.sender.specs.SessionCalls.{object_of, hand_of, Holds, idle_of, forced_slot, service_by, served_of, ran_by, attended_of}
+use Rattle.sender.specs.EncoderCalls.{encoder_of, symbol_said, emitted_said, read_of, Reads, Read}
+use Rattle.sender.specs.SessionCalls.{object_of, hand_of, Holds, idle_of, forced_slot, service_by, served_of, ran_by, attended_of, Turn, Serving}
 use Rattle.sender.specs.SessionMeans.{InHand, queue_of}
 use Rattle.sender.specs.declared.blockencoder.BlockEncoder.{BlockEncoder}
 use Rattle.sender.specs.declared.blockencoder.Symbol.{Symbol}
-use Rattle.sender.specs.declared.blockencoder.Emitted.{Emitted}
-use Rattle.sender.specs.declared.blockencoder.Emitted.TheVariants as EmittedV
-use Rattle.sender.specs.declared.blockencoder.Read.{Read}
 use Rattle.sender.specs.declared.sendersession.SenderSession.{SenderSession}
 use Rattle.sender.specs.declared.sendersession.Outcome.{Outcome}
 use Rattle.sender.specs.declared.sendersession.Outcome.TheVariants.{Idle, Sent, Over}
-use Rattle.sender.specs.declared.sendersession.Serving.{Serving}
-use Rattle.sender.specs.declared.sendersession.Turn.{Turn}
 use Rattle.sender.proofs.EncoderReads.{read_means}
 use Rattle.sender.proofs.SessionFacts.{has_slot, turn_of, FileRuns, same_side, same_on, done_side}
 use Rattle.sender.proofs.SessionLaws.{holds_done}
@@ -185,7 +180,7 @@ module _ (u : Setup) (now w : ℕ) (window : u.window ≡ w) (f : Fdt) (g : Hold
           else elim z.0 [ None ↦ Def.Round.again (Def.put_back now (in_hand f x) (queue_of f)) | Some y ↦ Def.Round.over (Def.sent (queue_of f) (in_hand f x) z.1 y) ]
 
       -- the code's
-      ran_after : Bool → Bool → Emitted → Turn
+      ran_after : Bool → Bool → Option Symbol → Turn
       ran_after queued early a =
           let s : Serving = when queued || early then record { answer = Idle; session = x } else service_by x r.encoder a in
           ran_by now f x s.session s.answer
@@ -193,11 +188,11 @@ module _ (u : Setup) (now w : ℕ) (window : u.window ≡ w) (f : Fdt) (g : Hold
       resting : Rounds w f x (Def.Round.over still) (record { answer = Idle; fdt = f; session = x })
       resting = waits (keeps now w f g x h b still Idle x b refl (λ j. refl) h (still_view now w f g x h b))
 
-      go : (queued early : Bool) (a : Emitted) → Rounds w f x (round_by queued early (emitted_said a, encoder_of r.encoder)) (ran_after queued early a)
+      go : (queued early : Bool) (a : Option Symbol) → Rounds w f x (round_by queued early (emitted_said a, encoder_of r.encoder)) (ran_after queued early a)
       go true early a = resting
       go false true a = resting
-      go false false (EmittedV.One s) = sent (keeps now w f g x h b _ (Sent s) (after x r.encoder) b refl (λ j. refl) read_in_hand (sent_view now w f g x h b s r.encoder))
-      go false false EmittedV.Nothing =
+      go false false (Some s) = sent (keeps now w f g x h b _ (Sent s) (after x r.encoder) b refl (λ j. refl) read_in_hand (sent_view now w f g x h b s r.encoder))
+      go false false None =
           let d = done_of now x.slot f in
           subst (λ q. Rounds w f x (Def.Round.again q) (record { answer = Over; fdt = d; session = idle_of x.priority })) (sym (done_queue now w f g x h))
           (ended d (holds_done f g now x.slot) (done_side f g.valid now x.slot).announcer (after_end now w f g x h b))

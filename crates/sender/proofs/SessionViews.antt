@@ -16,24 +16,21 @@ use Rattle.lifecycle.specs.Setup.{Setup}
 use Rattle.lifecycle.specs.FileDesc.{startable_file}
 use Rattle.lifecycle.specs.Slots.{no_slot, slot_at}
 use Rattle.lifecycle.specs.Announce.{waits_of}
-use Rattle.lifecycle.specs.FdtCalls.{file_at, files, sends, taken_of}
+use Rattle.lifecycle.specs.FdtCalls.{file_at, files, sends, taken_of, Taken}
 use Rattle.lifecycle.specs.FdtCalls.{started_slot}
 use Rattle.lifecycle.proofs.FdtMeans.{Waits, Seen, Takes, nothing, takes}
 use Rattle.lifecycle.specs.declared.slots.Slot.{Slot}
-use Rattle.sizes.specs.declared.place.Place.{Place}
 use Rattle.lifecycle.specs.declared.fdt.Fdt.{Fdt}
-use Rattle.lifecycle.specs.declared.fdt.Taken.{Taken}
 use Rattle.lifecycle.proofs.FdtFacts.{used_sends}
 use Rattle.lifecycle.proofs.FdtViews.{at_each, taken_view}
 use Rattle.lifecycle.proofs.TakesKeep.{started_sends}
 use Rattle.definition.specs.Session as Def
 use Rattle.sender.specs.EncoderCalls.{new_of}
-use Rattle.sender.specs.SessionCalls.{object_of, hand_of, session_of, Holds, Runs, idle_of, begun_of, attended_of, taken_by, taken_on_of, again_by, ran_of}
+use Rattle.sender.specs.SessionCalls.{object_of, hand_of, session_of, Holds, Runs, idle_of, begun_of, attended_of, taken_by, taken_on_of, again_by, ran_of, Turn}
 use Rattle.sender.specs.SessionMeans.{InHand, Stands, queue_of}
 use Rattle.sender.specs.declared.sendersession.SenderSession.{SenderSession}
 use Rattle.sender.specs.declared.sendersession.Outcome.{Outcome}
 use Rattle.sender.specs.declared.sendersession.Outcome.TheVariants.{Idle, Over}
-use Rattle.sender.specs.declared.sendersession.Turn.{Turn}
 use Rattle.sender.proofs.SessionFacts.{has_slot, packet_said, SameSide, FileRuns, same_side, same_on, taken_side}
 use Rattle.sender.proofs.SessionLaws.{holds_taken}
 use Rattle.sender.proofs.SessionRounds.{in_hand, has_sent, Rounds, waits, sent, ended, attended_round}
@@ -162,7 +159,7 @@ module _ (u : Setup) (w now : ℕ) (window : u.window ≡ w) (narrow : w ≤ lar
 
       go : (t : Taken) → Holds t.fdt → SameSide f t.fdt → Takes x.priority now f t → P t
       go t gt st (nothing e q) = subst P (sym q) (subst (λ m. FileRuns w f x (Def.last_round m) (record { answer = Idle; fdt = f; session = x })) (sym (take_none e)) (nothing_means w f g x empty Idle (λ t. refl)))
-      go t gt st (takes n k hi wt a s) = subst (λ (b : Place). P (record { answer = b; fdt = t.fdt })) (sym a) (taken_means t.fdt gt st n k hi wt s)
+      go t gt st (takes n k hi wt a s) = subst (λ (b : Option ℕ). P (record { answer = b; fdt = t.fdt })) (sym a) (taken_means t.fdt gt st n k hi wt s)
 
 -- ---- the whole run
 
