@@ -1,7 +1,7 @@
 -- Each call from outside keeps its promise.
 use Rattle.sizes.specs.declared.refusal.Refusal.TheVariants as Because
 use mathlib.Core.Path.{◌≡◌, refl, sym, ◌∙◌, ap, subst}
-use mathlib.Core.Bool.{true, false, true≢false}
+use mathlib.Core.Bool.{true, false}
 use Rattle.std.specs.Prelude.{Option, None, Some, Err}
 use Rattle.sizes.specs.declared.refusal.Refusal.{Refusal}
 use mathlib.Core.List.{List, [], ◌∷◌}
@@ -21,10 +21,9 @@ use Rattle.lifecycle.specs.FdtCalls.{real_draft, draft_test_of, is_added_of, tra
 use Rattle.lifecycle.specs.declared.parts.Part.{Part}
 use Rattle.lifecycle.specs.declared.filedesc.Time.{Time}
 use Rattle.lifecycle.specs.declared.fdt.Fdt.{Fdt}
-use Rattle.definition.specs.Desk as Def
 use Rattle.sender.specs.SessionCalls.{Holds, idle_of, ran_of}
 use Rattle.sender.specs.FdtSessionCalls.{FdtHolds, fdt_ran_of}
-use Rattle.sender.specs.SenderCalls.{RunAnswer, ValidSender, Kept, working, with_list, has_priority, request_of, reserving_of, releasing_of, removing_of, prompting_of, completing_of, publishing_of, adding_of, answer_of, running_of, fdt_running_by, fdt_running_of, RunsFdt, RunsFile, Reserves, Releases, Removes, Prompts, Lists, CountsTransfers, Completes, Publishes, Adds}
+use Rattle.sender.specs.SenderCalls.{RunAnswer, ValidSender, working, with_list, has_priority, request_of, reserving_of, releasing_of, removing_of, prompting_of, completing_of, publishing_of, adding_of, answer_of, running_of, fdt_running_by, fdt_running_of, RunsFdt, RunsFile, Reserves, Releases, Removes, Prompts, Lists, CountsTransfers, Completes, Publishes, Adds}
 use Rattle.sender.specs.declared.sender.Sender.{Sender}
 use Rattle.sender.specs.declared.sender.Object.{Object}
 use Rattle.sender.specs.SenderCalls.{Adding}

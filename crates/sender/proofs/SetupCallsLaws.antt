@@ -30,8 +30,8 @@ use Rattle.lifecycle.specs.FdtCalls.{ValidFdt}
 use Rattle.lifecycle.specs.declared.slots.Slot.{Slot}
 use Rattle.lifecycle.specs.declared.fdt.Fdt.{Fdt}
 use Rattle.lifecycle.specs.declared.fdt.Settings.{Settings}
-use Rattle.lifecycle.proofs.SetupLaws.{sizes_sound, told}
-use Rattle.lifecycle.proofs.SetupLaws.{passed, by_id}
+use Rattle.lifecycle.proofs.SetupLaws.{told}
+use Rattle.lifecycle.proofs.SetupLaws.{passed}
 use Rattle.lifecycle.proofs.FdtKeeps.{OpeningList, opening_list}
 use Rattle.lifecycle.proofs.PublishLaws.{valid_opened}
 use Rattle.definition.specs.Desk as Def
@@ -141,9 +141,6 @@ module _ (n : ℕ) where
       go : Wide n → n ≡ Alloc.bits w
       go (one v q) = let r = sym (ap width_said q ∙ bits_said v) ∙ e in let x : v ≡ w = cc in q ∙ ap Alloc.bits x
       go (other h q) = absurd (unlike w (sym e ∙ q))
-
-  pub width_has : (w : ToiMaxLength) → width_said n ≡ Some w → has n widths ≡ true
-  width_has w e = ap (λ m. has m widths) (width_is w e) ∙ bits_has w
 
   -- is it one of the four
   pub width_given : is_some (width_said n) ≡ has n widths

@@ -6,7 +6,6 @@ use Rattle.sizes.specs.declared.refusal.Refusal.{Refusal}
 use Rattle.sizes.specs.declared.refusal.Refusal.TheVariants as Because
 use Rattle.sizes.specs.Limits.{most_sessions, largest_window, longest_store}
 use Rattle.sizes.specs.Allocator as Alloc
-use Rattle.sizes.specs.declared.partition.Sizes.{Sizes}
 use Rattle.lifecycle.specs.Setup.{Setup as DefSetup}
 use Rattle.lifecycle.specs.FileDesc.{time_of, plan_named, carousel_named, target_named}
 use Rattle.lifecycle.specs.Slots.{no_slot, slot_at}
@@ -22,7 +21,6 @@ use Rattle.sender.specs.SessionCalls.{Holds, session_of, idle_of, ran_of}
 use Rattle.sender.specs.FdtSessionCalls.{FdtHolds, fdt_idle_of, fdt_ran_of}
 use Rattle.sender.specs.SessionMeans.{queue_of, fdt_of, fdt_carousel_of, Stands, FdtInHand}
 use Rattle.sender.specs.declared.sendersession.SenderSession.{SenderSession}
-use Rattle.sender.specs.declared.fdtsession.FdtSession.{FdtSession}
 use Rattle.sender.specs.declared.sendersession.Outcome.{Outcome}
 use Rattle.sender.specs.declared.sendersession.Outcome.TheVariants as OutcomeV
 use Rattle.sender.specs.declared.sender.Sender.{Sender}
@@ -208,10 +206,6 @@ answer_of f toi id (OutcomeV.Sent y) = Ok (Some (record { is_fdt = f; toi = toi;
 abbrev pub with_session : ℕ → SenderSession → Sender → Sender
 with_session k x s = record { fdt = s.fdt; window = s.window; count = s.count; sessions = set s.sessions k x; fdt_session = s.fdt_session }
 
--- the sender with x for the FDT session
-abbrev pub with_fdt_session : FdtSession → Sender → Sender
-with_fdt_session x s = record { fdt = s.fdt; window = s.window; count = s.count; sessions = s.sessions; fdt_session = x }
-
 -- a run of file session i
 unfoldable pub running_of : ℕ → ℕ → Sender → Running
 running_of i now s =
@@ -222,11 +216,6 @@ running_of i now s =
       sender = record { fdt = r.fdt; window = s.window; count = s.count; sessions = set s.sessions i r.session; fdt_session = s.fdt_session };
     })
     else record { taken = false; answer = Err Because.NoSession; sender = s }
-
--- why a draft is refused
-abbrev pub draft_answer : Result (Unit {0}) Refusal → RunAnswer
-draft_answer (Ok u) = Ok None
-draft_answer (Err why) = Err why
 
 -- a run of the FDT session with a draft that was looked at
 abbrev pub fdt_running_by : ℕ → Option Part → Sender → Option Refusal → Running

@@ -1,11 +1,9 @@
-use Rattle.std.specs.Prelude.{Err}
-use mathlib.Core.Path.{sym, ◌∙◌, ap, subst}
+use mathlib.Core.Path.{sym, ◌∙◌}
 use borrow.Author.Rules.{rules}
 use Rattle.std.proofs.lemmas.Result.{err_from_is_err_and}
-use Rattle.sizes.specs.declared.refusal.Refusal.{Refusal}
 use Rattle.sizes.proofs.Tests.{ok_told, err_told}
 use Rattle.lifecycle.proofs.SetupLaws.{passed, refused_by, told}
-use Rattle.sender.specs.SetupCalls.{setup_said, Opens}
+use Rattle.sender.specs.SetupCalls.{setup_said}
 use Rattle.sender.proofs.SetupCallsLaws.{width_bad, width_is, opens, opens_not}
 use Rattle.sender.proofs.setup.set_up.Goals as goal
 

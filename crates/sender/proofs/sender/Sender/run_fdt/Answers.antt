@@ -1,5 +1,4 @@
 use Rattle.std.specs.Prelude.{Option}
-use mathlib.Core.Bool.{true}
 use Rattle.lifecycle.specs.FdtCalls.{draft_said, draft_test_of}
 use Rattle.lifecycle.specs.declared.parts.Part.{Part}
 use Rattle.sender.specs.FdtSessionCalls.{FdtTries, fdt_ran_of}
