@@ -1,5 +1,5 @@
 -- Laws on words.
-use mathlib.Core.Path.{◌≡◌, refl, sym, ap, ◌∙◌}
+use mathlib.Core.Path.{◌≡◌, refl, sym, ap, subst, ◌∙◌}
 use mathlib.Core.List.{List, [], ◌∷◌}
 use mathlib.Core.Bool.{true, false, not}
 use mathlib.Core.Logic.{⊎_elim}
@@ -10,10 +10,10 @@ use lib.Dec.{eqb}
 use lib.ListN.{length, drop, get_or, drop_of_length-le}
 use lib.Seq.{drop-cons}
 use borrow.Author.Tests.{eqb-true, eq-eqb, ne_eqb, le-ltb, lt-ltb}
+use Rattle.std.specs.Prelude.{Option, Some, None}
 use Rattle.text.specs.Bytes.{blank, ink, pass}
 use Rattle.text.specs.Words.{start_from, word_from, same, NextWord}
 use Rattle.text.specs.declared.word.Word.{Word}
-use Rattle.text.specs.declared.word.Word.TheVariants.{At, End}
 use Rattle.text.proofs.Lists.{bool_cases, both, lt_or_le, pass_from, pass_within, pass_stops, pass_moves}
 
 -- two lists are the same exactly where they are equal
@@ -45,11 +45,11 @@ module _ (a b : List ℕ) (i : ℕ) where
 
 -- the next word, from where the blanks end
 module _ (s : List ℕ) (from : ℕ) where
-  pub word_none : length s ≤ pass blank s from → word_from s from ≡ End
+  pub word_none : length s ≤ pass blank s from → word_from s from ≡ None
   unfolding word_from start_from
   word_none h = rw (le-ltb _ _ h)
 
-  pub word_some : pass blank s from < length s → word_from s from ≡ At (pass blank s from) (pass ink s (pass blank s from))
+  pub word_some : pass blank s from < length s → word_from s from ≡ Some (record { start = pass blank s from; end = pass ink s (pass blank s from) })
   unfolding word_from start_from
   word_some h = rw (lt-ltb _ _ h)
 
@@ -63,11 +63,12 @@ module _ (s : List ℕ) (from : ℕ) where
   )
 
   -- a word has a byte, and is a part of s behind `from`
-  pub word_inside : (start end : ℕ) → word_from s from ≡ At start end → (from ≤ start) × (start < end) × (end ≤ length s)
-  word_inside start end e =
-      ⊎_elim (λ (h : pass blank s from < length s). let k = word_some h in let a : start ≡ pass blank s from = cc in let b : end ≡ pass ink s (pass blank s from) = cc in rw (a, b) (some_inside h))
+  pub word_inside : (w : Word) → word_from s from ≡ Some w → (from ≤ w.start) × (w.start < w.end) × (w.end ≤ length s)
+  word_inside w e =
+      ⊎_elim
+      (λ (h : pass blank s from < length s). let k = word_some h in let a : record { start = pass blank s from; end = pass ink s (pass blank s from) } ≡ w = cc in subst (λ (v : Word). (from ≤ v.start) × (v.start < v.end) × (v.end ≤ length s)) a (some_inside h))
       (λ (h : length s ≤ pass blank s from). let k = word_none h in let z : ◌≡◌ {A = ℕ} 0 1 = cc in absurd (omega arith))
       (lt_or_le (pass blank s from) (length s))
 
-  pub next_word : (r : Word) → r ≡ word_from s from → NextWord s from r
-  next_word r e = record { exact = e; inside = λ i j h. word_inside i j (sym e ∙ h) }
+  pub next_word : (r : Option Word) → r ≡ word_from s from → NextWord s from r
+  next_word r e = record { exact = e; inside = λ w h. word_inside w (sym e ∙ h) }

@@ -26,7 +26,7 @@ pub use bytes::part;
 pub use line::{
     Input, LONGEST, Lines, next_line, open_lines, refill, take_line, this_line, unread,
 };
-pub use number::{Field, Number, next_number, number_of};
+pub use number::{Field, FieldError, NumberError, next_number, number_of};
 pub use output::write_all;
 pub use put::{put_next, put_number, put_text};
 pub use word::{Word, ended, is_word, next_word};

@@ -5,32 +5,29 @@ ghost use Rattle.text.specs.Words.{NextWord, is_end, same, word_from};
 use crate::bytes::{Class, pass};
 
 // A word is the bytes start..end.
-#[derive(Clone, Copy)]
-pub enum Word {
-    At { start: usize, end: usize },
-    End,
+#[derive(Clone, Copy, Debug, PartialEq, Eq)]
+pub struct Word {
+    pub start: usize,
+    pub end: usize,
 }
 
-// The next word at or after `from`: End where only blanks are left, or `from` is past the end.
-pub fn next_word(s: &[u8], from: usize) -> Word
+// The next word at or after `from`: None where only blanks are left, or `from` is past the end.
+pub fn next_word(s: &[u8], from: usize) -> Option<Word>
     ensures { NextWord s.now from result }
 {
     let start = pass(Class::Blank, s, from);
     if s.len() <= start {
-        return Word::End;
+        return None;
     }
     let end = pass(Class::Ink, s, start);
-    Word::At { start, end }
+    Some(Word { start, end })
 }
 
 // Is there no word at or after `from`?
 pub fn ended(s: &[u8], from: usize) -> bool
     ensures { result ≡ is_end (word_from s.now from) }
 {
-    let Word::End = next_word(s, from) else {
-        return false;
-    };
-    true
+    next_word(s, from).is_none()
 }
 
 // Has w just the bytes of name?

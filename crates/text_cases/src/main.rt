@@ -5,7 +5,7 @@
 ghost use Rattle.std.specs.Prelude.{◌<◌, length};
 
 use std::io::Write;
-use text::{Number, Word};
+use text::NumberError;
 
 fn main(rt: HostRuntime) {
     let mut input = rt.stdin();
@@ -33,22 +33,22 @@ fn write_next<W: Write>(out: &mut W, line: &[u8], from: usize) -> usize
     requires { from < length line.now }
     ensures { from < result }
 {
-    let Word::At { start, end } = text::next_word(line, from) else {
+    let Some(word) = text::next_word(line, from) else {
         return line.len();
     };
     if 0 < from {
         text::write_all(out, b" ");
     }
-    put(out, text::part(line, start, end));
-    end
+    put(out, text::part(line, word.start, word.end));
+    word.end
 }
 
 // Writes what a word is as a number.
 fn put<W: Write>(out: &mut W, word: &[u8]) {
     match text::number_of(word) {
-        Number::Value(n) => put_decimal(out, n),
-        Number::Past => text::write_all(out, b"past"),
-        Number::Unreadable => text::write_all(out, b"unreadable"),
+        Ok(n) => put_decimal(out, n),
+        Err(NumberError::Past) => text::write_all(out, b"past"),
+        Err(NumberError::Unreadable) => text::write_all(out, b"unreadable"),
     };
 }
 

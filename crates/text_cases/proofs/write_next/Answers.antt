@@ -4,4 +4,4 @@ use Rattle.text_cases.proofs.write_next.Goals as goal
 
 pub returns : goal.returns
 returns g c =
-    omega (arith, c.next_word.ensures.inside _ _ c.in-At.is)
+    omega (arith, c.next_word.ensures.inside _ c.in-Some.is)
