@@ -4,4 +4,5 @@ pub mod LineLaws
 pub mod Lists
 pub mod Numbers
 pub mod ReadBack
-pub mod Words
+pub mod Takes
+pub mod WordLaws

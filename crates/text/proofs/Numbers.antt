@@ -23,7 +23,7 @@ use Rattle.text.specs.declared.number.NumberError.TheVariants.{Past, Unreadable}
 use Rattle.text.specs.declared.number.Field.{Field}
 use Rattle.text.specs.declared.number.FieldError.{FieldError}
 use Rattle.text.specs.declared.number.FieldError.TheVariants.{Missing}
-use Rattle.text.proofs.Words.{word_inside}
+use Rattle.text.proofs.WordLaws.{word_inside}
 use Rattle.text.proofs.Lists.{both, lt_or_le}
 
 pub digit_range : (b : ℕ) → digit b ≡ true → (48 ≤ b) × (b ≤ 57)

@@ -1,5 +1,6 @@
--- Read in this order: Bytes, Words, Numbers, Lines, Put.
+-- Read in this order: Bytes, Words, Numbers, Line, Lines, Put.
 pub mod Bytes
+pub mod Line
 pub mod Lines
 pub mod Numbers
 pub mod Put

@@ -21,6 +21,7 @@ mod number;
 mod output;
 mod put;
 mod word;
+mod words;
 
 pub use bytes::part;
 pub use line::{
@@ -30,3 +31,4 @@ pub use number::{Field, FieldError, NumberError, next_number, number_of};
 pub use output::write_all;
 pub use put::{put_next, put_number, put_text};
 pub use word::{Word, ended, is_word, next_word};
+pub use words::Words;

@@ -2,7 +2,7 @@
 use mathlib.Core.Path.{refl, sym, ◌∙◌}
 use native.Mathlib.Omega.{arith}
 use borrow.Author.Rules.{rules}
-use Rattle.text.proofs.Words.{unlike_lengths, same_more, same_stop, same_end}
+use Rattle.text.proofs.WordLaws.{unlike_lengths, same_more, same_stop, same_end}
 use Rattle.text.proofs.word.is_word.Goals as goal
 
 pub returns-then-w-name : goal.returns-then-w-name
