@@ -1,20 +1,19 @@
 -- Laws on words.
 use mathlib.Core.Path.{◌≡◌, refl, sym, ap, subst, ◌∙◌}
 use mathlib.Core.List.{List, [], ◌∷◌}
-use mathlib.Core.Bool.{true, false, not}
+use mathlib.Core.Bool.{true, not, ◌&&◌}
 use mathlib.Core.Logic.{⊎_elim}
-use Prim.Native.Nat.{ℕ, ◌+◌, ◌<◌, ◌≤◌}
-use native.Mathlib.Numerals.{add-one}
+use Prim.Native.Nat.{ℕ, ◌<◌, ◌≤◌}
 use native.Mathlib.Omega.{arith}
 use lib.Dec.{eqb}
-use lib.ListN.{length, drop, get_or, drop_of_length-le}
-use lib.Seq.{drop-cons}
-use borrow.Author.Tests.{eqb-true, eq-eqb, ne_eqb, le-ltb, lt-ltb}
+use lib.ListN.{length}
+use borrow.Author.Tests.{eqb-true, le-ltb, lt-ltb}
 use Rattle.std.specs.Prelude.{Option, Some, None}
+use Rattle.std.specs.Str.{bytes_eq}
 use Rattle.text.specs.Bytes.{blank, ink, pass}
 use Rattle.text.specs.Words.{start_from, word_from, same, NextWord}
 use Rattle.text.specs.declared.word.Word.{Word}
-use Rattle.text.proofs.Lists.{bool_cases, both, lt_or_le, pass_from, pass_within, pass_stops, pass_moves}
+use Rattle.text.proofs.Lists.{both, lt_or_le, pass_from, pass_within, pass_stops, pass_moves}
 
 -- two lists are the same exactly where they are equal
 pub same_equal : (a b : List ℕ) → same a b ≡ true → a ≡ b
@@ -27,21 +26,13 @@ same_equal (x ∷ a) (y ∷ b) h =
     let e : x ≡ y = eqb-true x y t.0 in
     let f : a ≡ b = same_equal a b t.1 in cc
 
-pub unlike_lengths : (a b : List ℕ) → (length a ≡ length b → ⊥) → same a b ≡ false
-unlike_lengths a b h = ⊎_elim (λ (t : same a b ≡ true). absurd (h (ap length (same_equal a b t)))) (λ (t : same a b ≡ false). t) (bool_cases (same a b))
-
-module _ (a b : List ℕ) (i : ℕ) where
-  pub same_more : i < length a → i < length b → get_or a i 0 ≡ get_or b i 0 → same (drop i a) (drop i b) ≡ same (drop (i + 1) a) (drop (i + 1) b)
-  unfolding same
-  same_more h k e = rw (drop-cons a i 0 h, drop-cons b i 0 k, eq-eqb _ _ e, add-one i)
-
-  pub same_stop : i < length a → i < length b → (get_or a i 0 ≡ get_or b i 0 → ⊥) → same (drop i a) (drop i b) ≡ false
-  unfolding same
-  same_stop h k e = rw (drop-cons a i 0 h, drop-cons b i 0 k, ne_eqb _ _ e)
-
-  pub same_end : length a ≤ i → length b ≤ i → same (drop i a) (drop i b) ≡ true
-  unfolding same
-  same_end h k = rw (drop_of_length-le a h, drop_of_length-le b k)
+-- the same, as `==` of slices says it
+pub same_list : (a b : List ℕ) → bytes_eq a b ≡ same a b
+unfolding same
+same_list [] [] = refl
+same_list [] (y ∷ b) = refl
+same_list (x ∷ a) [] = refl
+same_list (x ∷ a) (y ∷ b) = ap (λ t. eqb x y && t) (same_list a b)
 
 -- the next word, from where the blanks end
 module _ (s : List ℕ) (from : ℕ) where

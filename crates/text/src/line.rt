@@ -26,11 +26,7 @@ fn move_to_front(buf: &mut [u8], from: usize, n: usize)
     requires { from + n ≤ length buf.old }
     ensures { (length buf.new ≡ length buf.old) × (take n buf.new ≡ take n (drop from buf.old)) }
 {
-    let mut i = 0;
-    while i < n {
-        buf[i] = buf[from + i];
-        i += 1;
-    }
+    buf.copy_within(from..from + n, 0);
 }
 
 // Reads once into buf from index `at` on, and answers how far buf is filled.

@@ -34,15 +34,5 @@ pub fn ended(s: &[u8], from: usize) -> bool
 pub fn is_word(w: &[u8], name: &[u8]) -> bool
     ensures { result ≡ same w.now name.now }
 {
-    if w.len() != name.len() {
-        return false;
-    }
-    let mut i = 0;
-    while i < w.len() {
-        if w[i] != name[i] {
-            return false;
-        }
-        i += 1;
-    }
-    true
+    w == name
 }
