@@ -4,5 +4,6 @@ pub mod LineLaws
 pub mod Lists
 pub mod Numbers
 pub mod ReadBack
+pub mod ReaderLaws
 pub mod Takes
 pub mod WordLaws
