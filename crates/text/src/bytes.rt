@@ -41,14 +41,12 @@ pub fn is_member(c: Class, b: u8) -> bool
 pub fn pass(c: Class, s: &[u8], from: usize) -> usize
     ensures { result ≡ bytes_pass (member c) s.now from }
 {
-    let mut i = from;
-    while i < s.len() {
-        if !is_member(c, s[i]) {
-            return i;
-        }
-        i += 1;
+    if s.len() < from {
+        return from;
     }
-    i
+    let rest = &s[from..];
+    let run = rest.iter().position(|b| !is_member(c, *b));
+    from + run.unwrap_or(rest.len())
 }
 
 // Space, tab, carriage return.

@@ -38,12 +38,7 @@ fn append(out: &mut [u8], at: usize, text: &[u8]) -> usize
     requires { at + length text.now ≤ length out.old }
     ensures { Appended out.old at text.now out.new result }
 {
-    let mut end = at;
-    let mut i = 0;
-    while i < text.len() {
-        out[end] = text[i];
-        end += 1;
-        i += 1;
-    }
+    let end = at + text.len();
+    out[at..end].copy_from_slice(text);
     end
 }
