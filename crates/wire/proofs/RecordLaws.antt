@@ -11,14 +11,14 @@ use lib.Dec.{eqb}
 use lib.Pow.{pow-add, pow_pos}
 use lib.ListN.{length, take, drop, length-drop}
 use lib.Seq.{drop-drop, take_all}
+use Rattle.std.specs.Prelude.{Ok, Err}
 use Rattle.sizes.specs.Words.{one_if}
+use Rattle.sizes.specs.declared.refusal.Refusal.TheVariants as Because
 use Rattle.sizes.proofs.Tests.{Tested, pass, fail, tested, and_left}
 use Rattle.wire.specs.Packing.{Field, field_widths, total, join, fields_fit, split_bits, last_bytes, number_spelled}
 use Rattle.wire.specs.Record.{in_bits, layout, with_values, padding, record_widths, record_size, well_named, good, written, values_in, writable, write_answer, write_buffer, RecordWrites, readable, read_answer, RecordReads}
 use Rattle.wire.specs.RecordWords.{first_fields, second_fields, third_fields, last_fields, record_in}
 use Rattle.wire.specs.declared.record.Record.{Record}
-use Rattle.wire.specs.declared.record.Writing.TheVariants.{Done, Refused}
-use Rattle.wire.specs.declared.record.Reading.TheVariants.{Fields, Refused as NoRecord}
 use Rattle.wire.proofs.PackingLaws.{field_values, with_widths, below_product, high_part, low_part, join_split_below, number_cut, join_append, split_join, fits_head, fits_tail, fits_both, bytes_word}
 
 -- no value is too wide
@@ -299,22 +299,22 @@ byte_flag false = refl
 
 -- what a write does: refused for want of room or for the fields, or done
 module _ (before : List ℕ) (r : Record) where
-  pub write_short : length before < record_size → RecordWrites before r Refused before
+  pub write_short : length before < record_size → RecordWrites before r (Err Because.Record) before
   unfolding write_answer write_buffer writable
   write_short h = record { answer = rw (lt-leb record_size (length before) h); buffer = rw (lt-leb record_size (length before) h) }
 
-  pub write_bad : record_size ≤ length before → good r ≡ false → RecordWrites before r Refused before
+  pub write_bad : record_size ≤ length before → good r ≡ false → RecordWrites before r (Err Because.Record) before
   unfolding write_answer write_buffer writable
   write_bad h g = record { answer = rw (le-leb record_size (length before) h, g); buffer = rw (le-leb record_size (length before) h, g) }
 
-  pub write_done : (after : List ℕ) → record_size ≤ length before → good r ≡ true → after ≡ written r ++ drop record_size before → RecordWrites before r Done after
+  pub write_done : (after : List ℕ) → record_size ≤ length before → good r ≡ true → after ≡ written r ++ drop record_size before → RecordWrites before r (Ok tt) after
   unfolding write_answer write_buffer writable
   write_done after h g e = record { answer = rw (le-leb record_size (length before) h, g); buffer = rw (le-leb record_size (length before) h, g) e }
 
   -- done, by the four words
   pub write_words : (after : List ℕ) (a b c d : ℕ) → record_size ≤ length before → good r ≡ true
       → after ≡ last_bytes 8 a ++ (last_bytes 8 b ++ (last_bytes 8 c ++ (last_bytes 4 d ++ drop record_size before)))
-      → a ≡ join (first_fields r) → b ≡ join (second_fields r) → c ≡ join (third_fields r) → d ≡ join (last_fields r) → RecordWrites before r Done after
+      → a ≡ join (first_fields r) → b ≡ join (second_fields r) → c ≡ join (third_fields r) → d ≡ join (last_fields r) → RecordWrites before r (Ok tt) after
   write_words after a b c d h g e ea eb ec ed =
       let l = drop record_size before in
       write_done after h g
@@ -324,19 +324,19 @@ module _ (before : List ℕ) (r : Record) where
 
 -- what a read answers, by its tests
 module _ (bs : List ℕ) where
-  pub read_unlike : (length bs ≡ record_size → ⊥) → RecordReads bs NoRecord
+  pub read_unlike : (length bs ≡ record_size → ⊥) → RecordReads bs (Err Because.Record)
   unfolding read_answer readable
   read_unlike h = record { answer = rw (ne_eqb (length bs) record_size h) }
 
-  pub read_padded : length bs ≡ record_size → (padding (values_in bs) ≡ 0 → ⊥) → RecordReads bs NoRecord
+  pub read_padded : length bs ≡ record_size → (padding (values_in bs) ≡ 0 → ⊥) → RecordReads bs (Err Because.Record)
   unfolding read_answer readable
   read_padded h p = record { answer = rw (eq-eqb (length bs) record_size h, ne_eqb (padding (values_in bs)) 0 p) }
 
   module _ (r : Record) (h : length bs ≡ record_size) (p : padding (values_in bs) ≡ 0) (e : with_values (values_in bs) ≡ r) where
-    pub read_bad : good r ≡ false → RecordReads bs NoRecord
+    pub read_bad : good r ≡ false → RecordReads bs (Err Because.Record)
     unfolding read_answer readable
     read_bad g = record { answer = rw (eq-eqb (length bs) record_size h, eq-eqb (padding (values_in bs)) 0 p, e, g) }
 
-    pub read_good : good r ≡ true → RecordReads bs (Fields r)
+    pub read_good : good r ≡ true → RecordReads bs (Ok r)
     unfolding read_answer readable
     read_good g = record { answer = rw (eq-eqb (length bs) record_size h, eq-eqb (padding (values_in bs)) 0 p, e, g) }

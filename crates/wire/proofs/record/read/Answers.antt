@@ -3,17 +3,17 @@ use mathlib.Core.Path.{sym, ◌∙◌}
 use Rattle.wire.proofs.RecordLaws.{read_unlike, read_padded, read_bad, read_good, words_padding, words_record}
 use Rattle.wire.proofs.record.read.Goals as goal
 
-pub returns-then-bytes-ne28 : goal.returns-then-bytes-ne28
-returns-then-bytes-ne28 c = read_unlike _ c.if-bytes-ne28.true
+pub returns-then-bytes-ne-RECORD_SIZE : goal.returns-then-bytes-ne-RECORD_SIZE
+returns-then-bytes-ne-RECORD_SIZE c = read_unlike _ c.if-bytes-ne-RECORD_SIZE.true
 
 pub returns-then-d-ne0 : goal.returns-then-d-ne0
 returns-then-d-ne0 c =
-    let h = c.if-bytes-ne28.false in
+    let h = c.if-bytes-ne-RECORD_SIZE.false in
     read_padded _ h (λ z. c.if-d-ne0.true (sym (words_padding _ h _ _ _ _ c.word_at-a.ensures.0 c.word_at-b.ensures.0 c.word_at-c.ensures.0 c.word_at-d.ensures.0) ∙ z))
 
 pub returns-then-not-is_good : goal.returns-then-not-is_good
 returns-then-not-is_good c =
-    let h = c.if-bytes-ne28.false in
+    let h = c.if-bytes-ne-RECORD_SIZE.false in
     let ea = c.word_at-a.ensures in
     let eb = c.word_at-b.ensures in
     let et = c.word_at-c.ensures in
@@ -24,7 +24,7 @@ returns-then-not-is_good c =
 
 pub returns : goal.returns
 returns c =
-    let h = c.if-bytes-ne28.false in
+    let h = c.if-bytes-ne-RECORD_SIZE.false in
     let ea = c.word_at-a.ensures in
     let eb = c.word_at-b.ensures in
     let et = c.word_at-c.ensures in
