@@ -158,3 +158,6 @@ valid_ready x v = valid_settled (drained_count (filled_of x)) (filled_of x) (val
 pub ready_free : (x : BlockEncoder) → ValidEncoder x → stuck (ready_of x) ≡ false
 unfolding ready_of
 ready_free x v = settled_free (filled_of x) (valid_filled x v)
+
+-- what taking drained blocks out is proved by
+pub ruleset draining = (stuck_some, valid_filled, valid_without, valid_next, count_less, settled_more, settled_end)

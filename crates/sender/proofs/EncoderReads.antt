@@ -19,8 +19,8 @@ use Rattle.sender.specs.declared.block.Open.{Open}
 use Rattle.sender.specs.declared.blockencoder.Content.{Content}
 use Rattle.sender.specs.declared.blockencoder.BlockEncoder.{BlockEncoder}
 use Rattle.sender.specs.declared.blockencoder.Visit.{Visit}
-use Rattle.sender.proofs.Offsets.{few, left}
-use Rattle.sender.proofs.EncoderLaws.{filled_none, valid_filled, valid_without, place_inside}
+use Rattle.sender.proofs.Offsets.{few, left, esi_small}
+use Rattle.sender.proofs.EncoderLaws.{filled_none, valid_filled, valid_without, place_inside, place_low}
 use Rattle.sender.proofs.EncoderViews.{place_view, open_none, drained_view, fill_view, without_view, visited, visited_view, free_visited, stuck_some, stuck_visited, moved_view, symbol_view, valid_moved, said, emptied_view, valid_flags}
 use Rattle.sender.proofs.EncoderCounts.{count_most, count_filled, count_without, settled_more, settled_end, filled_kept, ready_kept, valid_ready, ready_free}
 
@@ -278,3 +278,8 @@ unfolding glance_of
 glance_steps x v s = if_on (λ g. g ≡ Some s → Steps x s) (midway x)
     (λ e q. subst (Steps x) (cc) (midway_steps x v (midway_told x e)))
     (λ e q. absurd (let z : ◌≡◌ {A = ℕ} 0 1 = cc in omega arith))
+
+-- what a visit, and what a read, is proved by
+pub ruleset visiting = (place_low, place_inside, free_visited, esi_small, midway_told, midway_visit)
+
+pub ruleset reading = (visit_fits, valid_flags, valid_ready, ready_free)

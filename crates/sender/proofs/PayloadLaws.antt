@@ -8,6 +8,7 @@ use native.Mathlib.Omega.{arith}
 use lib.ListN.{length, take, drop}
 use Rattle.sizes.specs.Words.{when◌then◌else◌}
 use Rattle.lifecycle.specs.Parts.{past_store}
+use Rattle.lifecycle.proofs.PartLaws.{lies_in}
 use Rattle.lifecycle.specs.declared.parts.Part.{Part}
 use Rattle.definition.specs.Payload.{Stores, Place, no_place, bytes_of, store_of, place_of, payload_of}
 use Rattle.sender.specs.SenderCalls.{RunAnswer, packet_said, packet_in}
@@ -58,3 +59,6 @@ module _ (m : Stores) (a : RunAnswer) (p : Packet) (b : List ℕ) (said : a ≡ 
       rw n
       (ap (λ x. take c.size (drop c.start x)) stands
       ∙ sym (at_place there (placed ∙ ap (λ t. when t then no_place else there) e)))
+
+-- what the payload of an answer is proved by
+pub ruleset cutting = (lies_in, no_packet, of_fdt, of_object, left_out, cut_out)

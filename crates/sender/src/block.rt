@@ -25,6 +25,7 @@ pub fn no_open() -> Open
 }
 
 // How many symbols a block has.
+#[tactic(auto, unfolding(sizes::specs::Partition::symbols_in))]
 pub fn nb_source_symbols(p: Partition, k: Sbn) -> u64
     ensures { result ≡ symbols_in p k }
 {
@@ -37,6 +38,7 @@ pub fn nb_source_symbols(p: Partition, k: Sbn) -> u64
 
 impl Open {
     // Has it no symbol left?
+    #[tactic(auto, unfolding(crate::specs::EncoderCalls::is_empty))]
     pub fn is_empty(&self, p: Partition) -> bool
         ensures { result ≡ is_empty p self.now }
     {

@@ -56,6 +56,7 @@ pub struct Visit {
 
 impl BlockEncoder {
     // A transfer before its first packet.
+    #[tactic(auto, unfolding(crate::specs::EncoderCalls::new_of))]
     pub fn new(part: Part, sizes: Sizes, width: usize, closable: bool) -> BlockEncoder
         ensures { result ≡ new_of part sizes width closable }
     {
@@ -78,6 +79,7 @@ impl BlockEncoder {
     }
 
     // Is there a block to open, and room for it?
+    #[tactic(auto, unfolding(crate::specs::EncoderCalls::has_room))]
     fn has_room(&self) -> bool
         ensures { result ≡ has_room self.now }
     {
@@ -85,6 +87,7 @@ impl BlockEncoder {
     }
 
     // The next block is opened, at the window's end.
+    #[tactic(auto, using(crate::proofs::EncoderLaws::room_told, crate::proofs::Offsets::told), unfolding(crate::specs::EncoderCalls::one_opened))]
     fn read_block(&mut self)
         requires { ValidEncoder self.old × (has_room self.old ≡ true) }
         ensures { self.new ≡ one_opened self.old }
@@ -98,6 +101,7 @@ impl BlockEncoder {
     }
 
     // The window is filled.
+    #[tactic(auto, using(crate::proofs::EncoderLaws::filling))]
     fn read_window(&mut self)
         requires { ValidEncoder self.old }
         ensures { self.new ≡ filled_of self.old }
@@ -108,6 +112,7 @@ impl BlockEncoder {
     }
 
     // The place to visit: an index past the end becomes 0.
+    #[tactic(auto, unfolding(crate::specs::EncoderCalls::place_to_visit))]
     fn place(&self) -> usize
         ensures { result ≡ place_to_visit self.now }
     {
@@ -119,6 +124,7 @@ impl BlockEncoder {
     }
 
     // Has the block to visit no symbol left?
+    #[tactic(auto, using(crate::proofs::EncoderLaws::place_low), unfolding(crate::specs::EncoderCalls::stuck))]
     fn is_stuck(&self) -> bool
         requires { ValidEncoder self.now }
         ensures { result ≡ stuck self.now }
@@ -127,6 +133,7 @@ impl BlockEncoder {
     }
 
     // The block to visit leaves, and the index stays.
+    #[tactic(auto, using(crate::proofs::EncoderLaws::place_low), unfolding(crate::specs::EncoderCalls::without_of))]
     fn remove(&mut self)
         requires { ValidEncoder self.old × (0 < self.old.filled) }
         ensures { self.new ≡ without_of self.old }
@@ -137,6 +144,7 @@ impl BlockEncoder {
     }
 
     // The window is filled, and no drained block stands at the place to visit.
+    #[tactic(auto, using(crate::proofs::EncoderCounts::draining), unfolding(crate::specs::EncoderCalls::ready_of))]
     fn make_ready(&mut self)
         requires { ValidEncoder self.old }
         ensures { self.new ≡ ready_of self.old }
@@ -149,6 +157,7 @@ impl BlockEncoder {
     }
 
     // Where a symbol begins in what is sent, in bytes.
+    #[tactic(auto, using(crate::proofs::Offsets::offsets), unfolding(crate::specs::EncoderCalls::offset_of))]
     fn offset(&self, o: Open) -> u64
         requires { ValidEncoder self.now × Inside self.now.content o × (is_empty self.now.content.partition o ≡ false) }
         ensures { result ≡ offset_of self.now.content o }
@@ -164,6 +173,7 @@ impl BlockEncoder {
     }
 
     // Does nothing remain once the block at `at` is as `o` says?
+    #[tactic(auto, unfolding(crate::specs::EncoderCalls::last_of))]
     fn is_last(&self, at: usize, o: Open) -> bool
         requires { ValidEncoder self.now × (at < self.now.filled) }
         ensures { result ≡ last_of self.now at o }
@@ -178,6 +188,7 @@ impl BlockEncoder {
     }
 
     // Where a symbol's bytes stand in the store; the last one may be short.
+    #[tactic(auto, using(crate::proofs::Offsets::offset_inside))]
     fn payload(&self, o: Open) -> Part
         requires { ValidEncoder self.now × Inside self.now.content o × (is_empty self.now.content.partition o ≡ false) }
         ensures { result ≡ symbol_payload self.now.content o }
@@ -221,6 +232,7 @@ impl BlockEncoder {
     }
 
     // The symbol that the block to visit gives.
+    #[tactic(auto, using(crate::proofs::EncoderReads::visiting), unfolding(crate::specs::EncoderCalls::visit_of))]
     fn visit(&self, force: bool) -> Visit
         requires { ValidEncoder self.now × (0 < self.now.filled) × (stuck self.now ≡ false) }
         ensures { result ≡ visit_of force self.now }
@@ -231,6 +243,7 @@ impl BlockEncoder {
     }
 
     // With o the block to visit: is the transfer under way, no block to be opened or removed, and more to send after its next symbol?
+    #[tactic(auto, using(crate::proofs::EncoderViews::visited_stuck), unfolding(crate::specs::EncoderCalls::midway))]
     fn is_midway(&self, o: Open) -> bool
         requires { o ≡ open_at self.now (place_to_visit self.now) }
         ensures { result ≡ midway self.now }
@@ -246,6 +259,7 @@ impl BlockEncoder {
     }
 
     // The next symbol, where reading it only moves its block and the index on: no block is to be opened or removed, and it does not end the transfer.
+    #[tactic(auto, using(crate::proofs::EncoderReads::visiting), unfolding(crate::specs::EncoderCalls::glance_of))]
     pub fn glance(&self) -> Option<Visit>
         requires { ValidEncoder self.now }
         ensures { result ≡ glance_of self.now }
@@ -259,6 +273,7 @@ impl BlockEncoder {
     }
 
     // A symbol was read: its block is one symbol further, and the index moves on.
+    #[tactic(auto, unfolding(crate::specs::EncoderCalls::moved_of))]
     fn move_on(&mut self, v: Visit)
         requires { ValidEncoder self.old × (v.place < self.old.filled) × (v.symbol.esi.0 < largest_block) }
         ensures { self.new ≡ moved_of self.old v }
@@ -272,6 +287,7 @@ impl BlockEncoder {
     }
 
     // With no block open: an empty object has one packet, which closes; all else has been sent.
+    #[tactic(auto, unfolding(crate::specs::EncoderCalls::emptied_of))]
     fn read_empty(&mut self) -> Option<Symbol>
         ensures { emptied_of self.old ≡ record { answer = result; encoder = self.new } }
     {
@@ -293,6 +309,7 @@ impl BlockEncoder {
     }
 
     // The next symbol of the transfer, or none. A forced read is the last one, and closes.
+    #[tactic(auto, using(crate::proofs::EncoderReads::reading))]
     pub fn read(&mut self, force: bool) -> Option<Symbol>
         requires { ValidEncoder self.old }
         ensures { Reads force self.old (record { answer = result; encoder = self.new }) }

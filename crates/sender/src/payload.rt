@@ -7,6 +7,7 @@ use crate::sender::RunAnswer;
 use lifecycle::parts::ends_past;
 
 // The part that a run's answer names, of the FDT store or the object store; the empty part of the object store where the store does not have it or there is no packet.
+#[tactic(auto, using(crate::proofs::PayloadLaws::cutting))]
 pub fn payload<'a>(objects: &'a [u8], fdts: &'a [u8], answer: RunAnswer) -> &'a [u8]
     ensures { result.now ≡ payload_of (record { of_objects = objects.now; of_fdts = fdts.now }) (packet_in answer) }
 {

@@ -1,19 +1,11 @@
 use mathlib.Core.Path.{◌≡◌, sym, ◌∙◌, ap}
 use native.Mathlib.Omega.{arith}
-use borrow.Author.Rules.{rules}
 use lib.ListN.{length}
 use Rattle.std.specs.Prelude.{Ok}
 use Rattle.lifecycle.proofs.PartLaws.{lies_in}
-use Rattle.sender.proofs.PayloadLaws.{no_packet, of_fdt, of_object, left_out, cut_out}
+use Rattle.sender.proofs.PayloadLaws.{of_fdt, of_object, left_out}
 use Rattle.sender.proofs.payload.payload.Goals as goal
-use Rattle.sender.proofs.payload.payload.Goals.{in_default-via-in-Ok+in_default, in_default-via-in_default, then-p, else-p}
-
-pub returns-in_default : goal.returns-in_default
-returns-in_default c =
-    no_packet _ c.args.answer (elim c.in_default.branch [
-      | in_default-via-in-Ok+in_default w ↦ λ p e. search rules
-      | in_default-via-in_default w ↦ λ p e. cc
-    ])
+use Rattle.sender.proofs.payload.payload.Goals.{then-p, else-p}
 
 pub returns-then-ends_past : goal.returns-then-ends_past
 returns-then-ends_past c =
@@ -28,12 +20,3 @@ overflow_add-result c =
       | then-p w ↦ let q : length c.if-p.store.now ≡ length c.args.fdts.now = ap (λ s. length s.now) w.store-is in omega arith
       | else-p w ↦ let q : length c.if-p.store.now ≡ length c.args.objects.now = ap (λ s. length s.now) w.store-is in omega arith
     ]
-
-pub slice_bounds-result-end-2 : goal.slice_bounds-result-end-2
-slice_bounds-result-end-2 c = let h = lies_in _ _ (sym c.ends_past.ensures ∙ c.if-ends_past.false) in omega arith
-
-pub returns : goal.returns
-returns c =
-    cut_out _ c.args.answer c.in-Ok-Some.p c.if-p.store.now (c.in-Ok-Some.is ∙ ap Ok (rw c.in-Ok-Some.is at c.in-Ok-Some.field-0-is))
-    (elim c.if-p.branch [ then-p w ↦ ap (λ s. s.now) w.store-is ∙ of_fdt _ _ w.if-p.true | else-p w ↦ ap (λ s. s.now) w.store-is ∙ of_object _ _ w.if-p.false ])
-    (sym c.ends_past.ensures ∙ c.if-ends_past.false)

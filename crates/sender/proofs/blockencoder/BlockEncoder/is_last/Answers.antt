@@ -1,6 +1,6 @@
 use mathlib.Core.Path.{◌≡◌, ◌∙◌}
 use borrow.Author.Rules.{rules}
-use borrow.Author.Tests.{le-leb, lt-leb, tests}
+use borrow.Author.Tests.{le-leb, tests}
 use lib.ListN.{take, set}
 use Rattle.std.specs.List.{list_all}
 use Rattle.std.proofs.lemmas.Iterator.{YieldsList-from_slice}
@@ -8,10 +8,6 @@ use Rattle.std.proofs.lemmas.Iterator.Search.{all_from_yields_List}
 use Rattle.sender.specs.EncoderCalls.{is_empty, last_of}
 use Rattle.sender.proofs.EncoderViews.{all_is}
 use Rattle.sender.proofs.blockencoder.BlockEncoder.is_last.Goals as goal
-
-pub returns-then-self-p : goal.returns-then-self-p
-unfolding last_of
-returns-then-self-p c = rw (lt-leb _ _ c.if-self-p.true)
 
 pub returns : goal.returns
 unfolding last_of

@@ -1,16 +1,10 @@
-use mathlib.Core.Bool.{false}
-use mathlib.Core.Path.{◌≡◌, sym, ◌∙◌, ap, subst}
-use Prim.Native.Nat.{◌<◌}
-use native.Mathlib.Omega.{arith}
+use mathlib.Core.Path.{sym, ◌∙◌, ap, subst}
 use borrow.Author.Tests.{eq-eqb, ne_eqb}
 use Rattle.std.specs.Prelude.{Some}
-use Rattle.sizes.specs.Limits.{largest_block}
-use Rattle.sender.specs.EncoderCalls.{Read, ValidEncoder, Reads, ready_of, stuck, stopping_of, visit_of, moved_of, emptied_of}
+use Rattle.sender.specs.EncoderCalls.{Read, Reads, ready_of, stopping_of, visit_of, moved_of, emptied_of}
 use Rattle.sender.specs.declared.blockencoder.BlockEncoder.{BlockEncoder}
 use Rattle.sender.specs.declared.blockencoder.Visit.{Visit}
-use Rattle.sender.proofs.EncoderReads.{emitted_none, emitted_some, read_means, read_ended, read_goes, visit_fits}
-use Rattle.sender.proofs.EncoderViews.{valid_flags}
-use Rattle.sender.proofs.EncoderCounts.{valid_ready, ready_free}
+use Rattle.sender.proofs.EncoderReads.{emitted_none, emitted_some, read_means, read_ended, read_goes}
 use Rattle.sender.proofs.blockencoder.BlockEncoder.read.Goals as goal
 
 pub returns-then-self : goal.returns-then-self
@@ -25,28 +19,6 @@ returns-then-self-eq0 c =
     let e = c.make_ready.ensures in
     let n = emitted_none f (ready_of (stopping_of f x)) (eq-eqb _ _ (ap (λ y. y.filled) (sym e) ∙ c.if-self-eq0.true)) in
     subst (Reads f x) (read_goes f x c.if-self.false ∙ n ∙ ap emptied_of (sym e) ∙ c.read_empty.ensures) (read_means f x c.requires)
-
-pub visit-v-requires : goal.visit-v-requires
-visit-v-requires c =
-    let f = c.args.force in
-    let x = c.args.self.now in
-    let y = stopping_of f x in
-    let v = valid_flags x c.requires x.begun f in
-    let e = sym c.make_ready.ensures in
-    (subst ValidEncoder e (valid_ready y v), omega arith, subst (λ z. stuck z ≡ false) e (ready_free y v))
-
-pub move_on-requires : goal.move_on-requires
-move_on-requires c =
-    let f = c.args.force in
-    let x = c.args.self.now in
-    let y = stopping_of f x in
-    let v = valid_flags x c.requires x.begun f in
-    let e = sym c.make_ready.ensures in
-    let r = c.make_ready.new.self in
-    let u = subst ValidEncoder e (valid_ready y v) in
-    let h = visit_fits f r u (let n = c.if-self-eq0.false in omega arith) (subst (λ z. stuck z ≡ false) e (ready_free y v)) in
-    let w = c.visit-v.ensures in
-    (u, subst (λ z. z.place < r.filled) (sym w) h.0, subst (λ z. z.symbol.esi.0 < largest_block) (sym w) h.1)
 
 pub returns : goal.returns
 returns c =
