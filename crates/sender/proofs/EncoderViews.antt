@@ -129,11 +129,6 @@ pub stuck_visited : (x : BlockEncoder) → stuck x ≡ true → is_empty x.conte
 unfolding stuck
 stuck_visited x e = and_right (ltb 0 x.filled) (is_empty x.content.partition (visited x)) e
 
--- the library's word for a test of each block comes to the same
-pub all_is : {A : Type 0} (ok : A → Bool) (l : List A) → list_all ok l ≡ all ok l
-all_is ok [] = refl
-all_is ok (a ∷ l) = ap (λ b. ok a && b) (all_is ok l)
-
 all_map : {A B : Type 0} (ok : B → Bool) (f : A → B) (l : List A) → all ok (map f l) ≡ all (λ a. ok (f a)) l
 all_map ok f [] = refl
 all_map ok f (a ∷ l) = ap (λ b. ok (f a) && b) (all_map ok f l)

@@ -7,12 +7,8 @@ ghost use Rattle.text.specs.Bytes.{part as bytes_part, pass as bytes_pass};
 pub fn part(s: &[u8], start: usize, end: usize) -> &[u8]
     ensures { result.now ≡ bytes_part start end s.now }
 {
-    if start <= end {
-        if end <= s.len() {
-            &s[start..end]
-        } else {
-            &s[..0]
-        }
+    if start <= end && end <= s.len() {
+        &s[start..end]
     } else {
         &s[..0]
     }
@@ -54,11 +50,5 @@ pub fn pass(c: Class, s: &[u8], from: usize) -> usize
 fn is_blank(b: u8) -> bool
     ensures { result ≡ blank b }
 {
-    if b == 32 {
-        return true;
-    }
-    if b == 9 {
-        return true;
-    }
-    b == 13
+    matches!(b, b' ' | b'\t' | b'\r')
 }

@@ -29,13 +29,11 @@ pub fn number_of(w: &[u8]) -> Result<u64, NumberError>
     Ok(n)
 }
 
+#[tactic(auto, unfolding(crate::specs::Numbers::digit))]
 fn is_digit(b: u8) -> bool
     ensures { result ≡ digit b }
 {
-    if b < 48 {
-        return false;
-    }
-    b <= 57
+    b.is_ascii_digit()
 }
 
 // One more digit behind the number n.

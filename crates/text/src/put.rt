@@ -7,10 +7,7 @@ ghost use Rattle.text.specs.Put.{Put, Appended, decimal, next_text};
 pub fn put_text(out: &mut [u8], at: usize, text: &[u8]) -> usize
     ensures { Put out.old at text.now out.new result }
 {
-    if out.len() < at {
-        return at;
-    }
-    if out.len() - at < text.len() {
+    if out.len() < at || out.len() - at < text.len() {
         return at;
     }
     append(out, at, text)

@@ -6,7 +6,7 @@ use Rattle.std.specs.List.{list_all}
 use Rattle.std.proofs.lemmas.Iterator.{YieldsList-from_slice}
 use Rattle.std.proofs.lemmas.Iterator.Search.{all_from_yields_List}
 use Rattle.sender.specs.EncoderCalls.{is_empty, last_of}
-use Rattle.sender.proofs.EncoderViews.{all_is}
+use Rattle.sizes.proofs.Arrays.{all_is}
 use Rattle.sender.proofs.blockencoder.BlockEncoder.is_last.Goals as goal
 
 pub returns : goal.returns
