@@ -20,7 +20,6 @@ use Rattle.sizes.specs.declared.toiallocator.ToiAllocator.{ToiAllocator}
 use Rattle.sizes.proofs.Lists.{found_first, at_take, at_get}
 use Rattle.sizes.proofs.Arrays.{each_get}
 use Rattle.sizes.proofs.Tables.{one_true, one_most, inside}
-use Rattle.sizes.proofs.AllocatorLaws.{loose_found}
 use Rattle.sizes.proofs.AllocatorViews.{allocated_cases}
 use Rattle.lifecycle.proofs.FdtFacts as Facts
 use Rattle.lifecycle.specs.Lifecycle.{expired}
@@ -115,15 +114,6 @@ module _ (f : Fdt) (q : Request) (z : Sizes) (t : ℕ) where
         → named_of f q z t ≡ record { answer = Ok t; fdt = put_of (with_tois f (Alloc.claimed_of t f.tois).allocator) k t q z }
     unfolding named_of
     named_some k p = rw (h, p)
-
--- a loose number can be claimed
-pub claimed_done : (a : ToiAllocator) (t : ℕ) → has t (Alloc.loose a) ≡ true → (Alloc.claimed_of t a).answer ≡ Ok tt
-unfolding claimed_of
-claimed_done a t h = go (place (Alloc.entry_is t true) (Alloc.noted a)) (loose_found t (Alloc.noted a) ∙ h)
-  where
-    go : (o : Option ℕ) → given o ≡ true → (maybe (Alloc.unchanged a) (λ i. Alloc.changed (Alloc.bound_at a t i)) o).answer ≡ Ok tt
-    go None e = absurd (false≢true e)
-    go (Some i) e = refl
 
 -- what the allocator says tells whether it is full, and which number it gave
 allocated_full : (flag : Bool) (a : ToiAllocator) (why : Refusal) → (Alloc.allocated_of flag a).answer ≡ Err why

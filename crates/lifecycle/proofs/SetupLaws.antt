@@ -1,6 +1,6 @@
 -- What an accepted set-up tells, and when E, B or the block count is out of range.
 use mathlib.Core.Path.{◌≡◌, sym, ◌∙◌, ap}
-use mathlib.Core.Bool.{Bool, true, false, not, ◌&&◌, false≢true}
+use mathlib.Core.Bool.{Bool, true, false, not, ◌&&◌, and-true, false≢true}
 use Prim.Native.Nat.{ℕ, ◌≤◌}
 use native.Mathlib.Omega.{arith}
 use lib.Dec.{ltb, leb}
@@ -145,3 +145,14 @@ blocks_told z l e =
       sizes = sizes_told z (not-false (sound_sizes z) (or_left (not (sound_sizes z)) (ltb most_blocks (blocks_of z l).blocks) e));
       blocks = ltb-false most_blocks (blocks_of z l).blocks (or_right (not (sound_sizes z)) (ltb most_blocks (blocks_of z l).blocks) e);
     }
+
+-- the tests of a set-up, where every priority is in its range
+pub sound_tests : (s : Setup) → all (λ p. leb p largest_priority) s.priorities ≡ true → sound s
+    ≡ (within 1 most_sessions (length s.priorities) && within 1 largest_window s.window && sound_sizes s.sizes
+    && leb s.object_store longest_store && leb s.fdt_store longest_store && has s.width widths && leb s.first_id largest_fdt_id)
+unfolding sound
+sound_tests s e =
+    let a = within 1 most_sessions (length s.priorities) in
+    let first : (a && all (λ p. leb p largest_priority) s.priorities) ≡ a = ap (λ b. a && b) e ∙ and-true a in
+    ap (λ b. b && within 1 largest_window s.window && sound_sizes s.sizes
+    && leb s.object_store longest_store && leb s.fdt_store longest_store && has s.width widths && leb s.first_id largest_fdt_id) first

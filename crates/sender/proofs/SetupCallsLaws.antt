@@ -30,8 +30,7 @@ use Rattle.lifecycle.specs.FdtCalls.{ValidFdt}
 use Rattle.lifecycle.specs.declared.slots.Slot.{Slot}
 use Rattle.lifecycle.specs.declared.fdt.Fdt.{Fdt}
 use Rattle.lifecycle.specs.declared.fdt.Settings.{Settings}
-use Rattle.lifecycle.proofs.SetupLaws.{told}
-use Rattle.lifecycle.proofs.SetupLaws.{passed}
+use Rattle.lifecycle.proofs.SetupLaws.{told, passed, sound_tests}
 use Rattle.lifecycle.proofs.FdtKeeps.{OpeningList, opening_list}
 use Rattle.lifecycle.proofs.PublishLaws.{valid_opened}
 use Rattle.definition.specs.Desk as Def
@@ -44,10 +43,6 @@ use Rattle.sender.specs.declared.sendersession.SenderSession.{SenderSession}
 use Rattle.sender.specs.declared.setup.Setup.{Setup}
 
 -- ---- every number in its range
-
-and_true : (a : Bool) → (a && true) ≡ a
-and_true true = refl
-and_true false = refl
 
 -- every priority of 32 bits is in its range
 small_all : (n : ℕ) (l : List ℕ) → ((i : ℕ) → Fits w32 (get_or l i 0)) → all (λ p. leb p largest_priority) (take n l) ≡ true
@@ -82,12 +77,7 @@ module _ (z : Setup) where
 pub sound_by : (z : Setup) → ((i : ℕ) → Fits w32 (get_or z.priorities i 0)) → sound (setup_said z)
     ≡ (within 1 most_sessions (length (priorities_said z)) && within 1 largest_window z.window && sound_sizes z.sizes
     && leb z.object_store longest_store && leb z.fdt_store longest_store && has z.width widths && leb z.first_fdt_id largest_fdt_id)
-unfolding sound
-sound_by z h =
-    let a = within 1 most_sessions (length (priorities_said z)) in
-    let first : (a && all (λ p. leb p largest_priority) (priorities_said z)) ≡ a = ap (λ b. a && b) (small_named z h) ∙ and_true a in
-    ap (λ b. b && within 1 largest_window z.window && sound_sizes z.sizes
-    && leb z.object_store longest_store && leb z.fdt_store longest_store && has z.width widths && leb z.first_fdt_id largest_fdt_id) first
+sound_by z h = sound_tests (setup_said z) (small_named z h)
 
 -- ---- widths
 

@@ -225,3 +225,12 @@ pub released_some : (a : ToiAllocator) (t : ℕ) → has t (loose a) ≡ true �
 unfolding dropped_of
 released_some a t h = maybe_on (λ (x : Changed). x.answer ≡ Ok tt) (place (entry_is t true) (noted a))
     (λ e. absurd (false≢true (ap given (sym e) ∙ loose_found t (noted a) ∙ h))) (λ i e. refl)
+
+-- a loose number can be claimed
+pub claimed_done : (a : ToiAllocator) (t : ℕ) → has t (loose a) ≡ true → (claimed_of t a).answer ≡ Ok tt
+unfolding claimed_of
+claimed_done a t h = go (place (entry_is t true) (noted a)) (loose_found t (noted a) ∙ h)
+  where
+    go : (o : Option ℕ) → given o ≡ true → (maybe (unchanged a) (λ i. changed (bound_at a t i)) o).answer ≡ Ok tt
+    go None e = absurd (false≢true e)
+    go (Some i) e = refl

@@ -2,7 +2,8 @@ use mathlib.Core.Path.{sym, ◌∙◌, ap}
 use Rattle.std.proofs.lemmas.Result.{err_from_is_err_and}
 use Rattle.sizes.specs.Allocator.{Changed}
 use Rattle.sizes.proofs.Tests.{ok_told, err_told}
-use Rattle.lifecycle.proofs.FdtLaws.{free_found, claimed_done, named_unknown, named_none, named_some}
+use Rattle.sizes.proofs.AllocatorViews.{claimed_done}
+use Rattle.lifecycle.proofs.FdtLaws.{free_found, named_unknown, named_none, named_some}
 use Rattle.lifecycle.proofs.fdt.Fdt.add_named.Goals as goal
 
 pub returns-then-not-is_loose : goal.returns-then-not-is_loose

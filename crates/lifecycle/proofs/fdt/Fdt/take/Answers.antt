@@ -19,7 +19,9 @@ returns c =
     let g = c.requires.0.slots_long in
     let h : k < length l = omega arith in
     let y = slot_at l k in
-    rw (c.close_gap.ensures, c.transfer_started.ensures)
+    let long = c.requires.0.queue_long in
+    let room = c.requires.0.queued in
+    rw (c.close_gap.ensures.inside (omega arith), c.transfer_started.ensures)
     (ap (λ s. with_objects f f.tois s (shut 0 f.queue c.args.n) (f.queued - 1))
     (twice l k h (record { holders = y.holders; listed = y.listed; file = with_life y.file (started_life y.file.plan c.args.now y.file.life) })
     (λ (w : Slot). record { holders = w.holders + 1; listed = w.listed; file = w.file })))

@@ -12,14 +12,11 @@ returns-in_err-at c =
     let r = err_from_is_err_and c.from_residual.result c.from_residual.ensures.1 in
     becomes _ _ (rw (r.1, r.2, w.1) (sym (dropped_none a c.args.loose c.args.toi (sym c.find.ensures ∙ w.0)))) (valid_dropped a c.requires c.args.loose c.args.toi)
 
-pub close_gap-requires : goal.close_gap-requires
-close_gap-requires c =
-    let p = sym c.find.ensures ∙ ok_told _ _ _ c.in_ok-at.ensures.value in
-    let h = found_inside c.args.self.now c.args.toi c.args.loose _ p in
-    let r = c.requires.room in let s = c.requires.sized in omega arith
-
 pub returns : goal.returns
 unfolding entry_gone
 returns c =
     let p = sym c.find.ensures ∙ ok_told _ _ _ c.in_ok-at.ensures.value in
-    becomes _ _ (rw c.close_gap.ensures (sym (dropped_some c.args.self.now c.args.loose c.args.toi _ p))) (valid_dropped c.args.self.now c.requires c.args.loose c.args.toi)
+    let h = found_inside c.args.self.now c.args.toi c.args.loose _ p in
+    let r = c.requires.room in
+    let s = c.requires.sized in
+    becomes _ _ (rw (c.close_gap.ensures.inside (omega arith)) (sym (dropped_some c.args.self.now c.args.loose c.args.toi _ p))) (valid_dropped c.args.self.now c.requires c.args.loose c.args.toi)
