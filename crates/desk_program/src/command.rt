@@ -142,7 +142,7 @@ fn read_call(name: &[u8], words: &mut Words) -> Option<Command> {
 
 // A question about sizes, which needs no sender.
 fn read_sizes(name: &[u8], words: &mut Words) -> Option<Command> {
-    if name == b"rawlength" {
+    if name == b"rawlength".as_slice() {
         return read_raw(words);
     }
     let l = next_number(words)?;
@@ -198,7 +198,7 @@ fn next_maybe(words: &mut Words) -> Option<Option<u64>> {
         return Some(Some(n));
     }
     let w = words.next_word()?;
-    (w == b"-").then_some(None)
+    (w == b"-".as_slice()).then_some(None)
 }
 
 // A time that may be missing.
@@ -227,9 +227,7 @@ fn read_read(words: Words) -> Option<Command> {
 fn read_trigger(mut words: Words) -> Option<Command> {
     let toi = next_number(&mut words)?;
     let start = time_of(next_maybe(&mut words)?);
-    words
-        .is_over()
-        .then_some(Command::Trigger { toi, start })
+    words.is_over().then_some(Command::Trigger { toi, start })
 }
 
 // The priorities of a set-up, as many as it names sessions. Some(None) where there are none, more than a sender has, or one

@@ -1,5 +1,5 @@
 // The commands of a script, played on one sender.
-ghost use Rattle.std.specs.Prelude.{◌≡◌};
+ghost use Rattle.std.specs.Prelude.{◌≡◌, None};
 ghost use Rattle.sizes.specs.Partition.{partition_of, block_length};
 ghost use Rattle.sender.specs.SenderCalls.{ValidSender};
 ghost use Rattle.desk_program.specs.Replies.{length_shown};
@@ -49,7 +49,7 @@ fn call(s: &mut Sender, c: Command) -> Reply
 impl Desk {
     // No sender, after a set-up that is refused, or none.
     pub fn shut() -> Desk
-        ensures { Holds result }
+        ensures { result.sender ≡ None }
     {
         Desk { sender: None }
     }

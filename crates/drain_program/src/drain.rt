@@ -37,14 +37,12 @@ pub struct Line {
 }
 
 // Is a number out of range, or are there too many blocks?
+#[tactic(auto, unfolding(crate::specs::DrainCalls::drain_refuses))]
 fn is_refused(t: Transfer) -> bool
     ensures { result ≡ drain_refuses t.l t.e t.b t.w }
 {
     let sizes = Sizes { e: t.e, b: t.b };
-    t.w == 0
-        || LARGEST_NAMED_WINDOW < t.w
-        || LONGEST_STORE < t.l
-        || are_bad_blocks(sizes, t.l)
+    t.w == 0 || LARGEST_NAMED_WINDOW < t.w || LONGEST_STORE < t.l || are_bad_blocks(sizes, t.l)
 }
 
 // The transfer, where its numbers are admitted.

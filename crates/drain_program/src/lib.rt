@@ -12,11 +12,10 @@ ghost use Rattle.drain_program.specs.DrainCalls.{drain_refuses};
 ghost use Rattle.drain_program.specs.Lines.{field, line_text, most_field, most_line};
 
 use crate::drain::Line;
+pub use drain::Transfer;
 use sender::blockencoder::BlockEncoder;
 use std::io::Write;
 use text::Words;
-
-pub use drain::Transfer;
 
 // Writes the answer to one line.
 pub fn answer<W: Write>(to: &mut W, line: &[u8]) {

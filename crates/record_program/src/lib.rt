@@ -37,7 +37,7 @@ pub fn read_words(mut words: Words) -> Option<Result<Record, Refusal>> {
     if !words.is_over() {
         return None;
     }
-    if w == b"-" {
+    if w == b"-".as_slice() {
         return Some(wire::record::read(b""));
     }
     read_word(w)
