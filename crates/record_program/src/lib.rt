@@ -9,6 +9,7 @@ ghost use Rattle.record_program.specs.Numbers.{room_for};
 ghost use Rattle.record_program.specs.Readings.{word_said, word_reading};
 
 use sizes::refusal::Refusal;
+use std::fmt;
 use text::Words;
 use wire::record::Record;
 
@@ -80,25 +81,19 @@ pub fn put_written(out: &mut [u8], r: Record, room: u8) -> usize {
     hex::put_hex(out, at, text::part(buffer, 0, n))
 }
 
-// The same for the fields of a record that was read.
-pub fn put_fields(out: &mut [u8], r: Record) -> usize {
-    let a = put_names(out, r);
-    let b = text::put_next(out, a, r.length);
-    let c = text::put_next(out, b, r.total);
-    text::put_next(out, c, r.symbols)
-}
+// A record that was read, as `fields FDT CLOSE FDT_ID TOI BLOCK SYMBOL LENGTH TRANSFER_LENGTH COUNT`.
+#[derive(Clone, Copy)]
+pub struct Fields(pub Record);
 
-// Up to the symbol's number.
-fn put_names(out: &mut [u8], r: Record) -> usize {
-    let a = put_flags(out, r);
-    let b = text::put_next(out, a, r.fdt_id as u64);
-    let c = text::put_next(out, b, r.toi);
-    let d = text::put_next(out, c, r.block.0 as u64);
-    text::put_next(out, d, r.symbol.0 as u64)
-}
-
-fn put_flags(out: &mut [u8], r: Record) -> usize {
-    let a = text::put_text(out, 0, b"fields");
-    let b = text::put_next(out, a, r.is_fdt as u64);
-    text::put_next(out, b, r.close as u64)
+impl fmt::Display for Fields {
+    fn fmt<W: fmt::Write>(&self, f: &mut fmt::Formatter<W>) -> fmt::Result {
+        let r = self.0;
+        write!(
+            f,
+            "fields {} {} {} {}",
+            r.is_fdt as u8, r.close as u8, r.fdt_id, r.toi
+        )?;
+        write!(f, " {} {} {}", r.block.0, r.symbol.0, r.length)?;
+        write!(f, " {} {}", r.total, r.symbols)
+    }
 }
