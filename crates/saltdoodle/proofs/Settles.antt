@@ -53,10 +53,6 @@ module _ (s : Sender) (ok : ValidSender s) (i : ℕ) where
   pub session_valid : ValidSession (session_at s i)
   session_valid = record { busy = λ e. ((ok.sessions i (used e)).busy e).encoder }
 
-  pub slot_below : (session_at s i).slot < 32
-  slot_below = of_bool ((session_at s i).slot < 32) (session_at s i).busy (λ e. ((ok.sessions i (used e)).busy e).slot) (λ e.
-      of_order ((session_at s i).slot < 32) i s.count (λ h. let z = ap (λ (x : SenderSession). x.slot) ((ok.sessions i h).idle e) in omega arith) (λ h. let z = ap (λ (x : SenderSession). x.slot) (ok.spare i h) in omega arith))
-
 -- ---- what a service comes to
 
 slot_by : (x : SenderSession) (y : BlockEncoder) (e : Option Symbol) → (service_by x y e).session.slot ≡ x.slot
