@@ -1,5 +1,5 @@
 -- A packet in the middle of a transfer: only numbers of the session change.
-use Rattle.std.specs.Prelude.{◌≡◌, Bool, true, false, not, ◌&&◌, ℕ, ◌+◌, ◌<◌, eqb, set, Option, None, Some}
+use Rattle.std.specs.Prelude.{◌≡◌, Bool, false, not, ◌&&◌, ℕ, ◌+◌, ◌<◌, eqb, set, Option, None, Some}
 use Rattle.sizes.specs.Words.{when◌then◌else◌, over}
 use Rattle.sizes.specs.Limits.{largest_window}
 use Rattle.sizes.specs.Partition.{esi}

@@ -1,5 +1,5 @@
 -- A run of a file session that changes nothing but the session: what it comes to, from the session, the slot in its hand and how many FDTs wait.
-use Rattle.std.specs.Prelude.{◌≡◌, Bool, true, false, not, ℕ, eqb, Option, None, Some, Ok}
+use Rattle.std.specs.Prelude.{◌≡◌, true, false, not, ℕ, eqb, Option, None, Some, Ok}
 use Rattle.sizes.specs.Words.{when◌then◌else◌}
 use Rattle.lifecycle.specs.declared.slots.Slot.{Slot}
 use Rattle.sender.specs.EncoderCalls.{ValidEncoder}

@@ -3,7 +3,7 @@
 
 pub mod quick;
 
-ghost use Rattle.std.specs.Prelude.{◌≡◌, Ok, None};
+ghost use Rattle.std.specs.Prelude.{◌≡◌, false};
 ghost use Rattle.sender.specs.SenderCalls.{answer_of};
 ghost use Rattle.sender.specs.declared.sendersession.Outcome.TheVariants as OutcomeV;
 ghost use Rattle.fast_run.specs.Settle.{ValidSession, settled_as, settled_of};

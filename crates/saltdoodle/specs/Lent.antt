@@ -1,10 +1,14 @@
 -- What each call promises on a sender that the host lends.
-use Rattle.std.specs.Prelude.{◌≡◌, ℕ, Option, Some, Result, Ok, Err}
+use Rattle.std.specs.Prelude.{◌≡◌, ℕ, get_or, Option, Some, Result, Ok, Err}
 use Rattle.sizes.specs.declared.refusal.Refusal.{Refusal}
+use Rattle.lifecycle.specs.Slots.{slot_at}
 use Rattle.lifecycle.specs.declared.parts.Part.{Part}
+use Rattle.lifecycle.specs.declared.slots.Slot.{Slot}
+use Rattle.sender.specs.SessionCalls.{idle_of}
 use Rattle.sender.specs.SenderCalls.{Reserving, Releasing, Adding, Publishing, Running, Reserves, Releases, Adds, Publishes, CountsTransfers, RunsFdt, RunsFile}
 use Rattle.sender.specs.SetupCalls.{Opens}
 use Rattle.sender.specs.declared.sender.Sender.{Sender}
+use Rattle.sender.specs.declared.sendersession.SenderSession.{SenderSession}
 use Rattle.host_structs.specs.Inputs.{object_in, named_in, setup_in}
 use Rattle.host_structs.specs.Answers.{numbered_told, refusal_told, transfers_told, run_told}
 use Rattle.host_structs.specs.declared.inputs.PlainObject.{PlainObject}
@@ -38,6 +42,13 @@ RunsFdtLent now c s = Lent (RunsFdt now (Some c) s) (λ (r : Running). r.sender)
 
 abbrev pub RunsFileLent : ℕ → ℕ → Sender → Sender → Sent → Type 0
 RunsFileLent i now s = Lent (RunsFile i now s) (λ (r : Running). r.sender) (λ (r : Running). run_told r.taken r.answer)
+
+-- file session i, and the slot in its hand
+abbrev pub session_at : Sender → ℕ → SenderSession
+session_at s i = get_or s.sessions i (idle_of 0)
+
+abbrev pub slot_of : Sender → ℕ → Slot
+slot_of s i = slot_at s.fdt.slots (session_at s i).slot
 
 -- the sender that a set-up opens; a refused one leaves what stood there
 abbrev pub opened_or : Sender → Result Sender Refusal → Sender

@@ -1,10 +1,14 @@
 // Every call from outside, on a sender that the host lends, with what the host names and is told.
 // A time is named `at`: in a clause, `now` is what stands behind a reference.
+ghost use Rattle.std.specs.Prelude.{◌≡◌, ◌<◌};
+ghost use Rattle.sizes.specs.Limits.{most_sessions};
+ghost use Rattle.fast_run.specs.Settle.{settled_of};
+ghost use Rattle.fast_run.specs.Quick.{Glances};
 ghost use Rattle.sender.specs.SenderCalls.{ValidSender, Removes, Prompts, Lists, Completes};
-ghost use Rattle.saltdoodle.specs.Lent.{ReservesLent, ReleasesLent, AddsLent, PublishesLent, RunsFdtLent, RunsFileLent, OpensLent, TotalsTold};
+ghost use Rattle.saltdoodle.specs.Lent.{session_at, slot_of, ReservesLent, ReleasesLent, AddsLent, PublishesLent, RunsFdtLent, RunsFileLent, OpensLent, TotalsTold};
 
-use fast_run::quick::glance;
-use fast_run::settle;
+use fast_run::quick::{Numbers, glance};
+use fast_run::{Settled, settle};
 use host_structs::answers::{
     Counted, Numbered, Sent, numbered_told, refusal_told, run_told, transfers_told,
 };
@@ -89,6 +93,24 @@ pub fn sd_run_fdt(s: &mut Sender, at: u64, draft: Part) -> Sent
     run_told(r.taken, r.answer)
 }
 
+// The numbers after the packet of file session j, where it only moves its block on.
+fn glance_at(s: &Sender, j: usize, at: u64) -> Option<Numbers>
+    requires { ValidSender s.now × (j < most_sessions) }
+    ensures { Glances s.now.fdt.announcer.waiting at (slot_of s.now j) (session_at s.now j) result }
+{
+    let x = &s.sessions[j];
+    glance(x, &s.fdt.slots[x.slot], s.fdt.announcer.waiting, at)
+}
+
+// The run of file session j, where nothing but the session changes.
+fn settle_at(s: &Sender, j: usize, at: u64) -> Option<Settled>
+    requires { ValidSender s.now × (j < most_sessions) }
+    ensures { result ≡ settled_of s.now.fdt.announcer.waiting at (slot_of s.now j) (session_at s.now j) }
+{
+    let x = &s.sessions[j];
+    settle(x, &s.fdt.slots[x.slot], s.fdt.announcer.waiting, at)
+}
+
 // File session i. In the middle of a transfer three numbers are stored; where nothing but the session changes, only it is.
 pub fn sd_run(s: &mut Sender, i: u64, at: u64) -> Sent
     requires { ValidSender s.old }
@@ -96,16 +118,14 @@ pub fn sd_run(s: &mut Sender, i: u64, at: u64) -> Sent
 {
     if i < SESSIONS {
         let j = i as usize;
-        let x = &s.sessions[j];
-        let t = &s.fdt.slots[x.slot];
-        let waiting = s.fdt.announcer.waiting;
-        if let Some(g) = glance(x, t, waiting, at) {
-            s.sessions[j].encoder.window[g.place].esi = g.esi;
-            s.sessions[j].encoder.index = g.next;
-            s.sessions[j].pace.due = g.due;
+        if let Some(g) = glance_at(s, j, at) {
+            let x = &mut s.sessions[j];
+            x.encoder.window[g.place].esi = g.esi;
+            x.encoder.index = g.next;
+            x.pace.due = g.due;
             return g.answer;
         }
-        if let Some(f) = settle(x, t, waiting, at) {
+        if let Some(f) = settle_at(s, j, at) {
             s.sessions[j] = f.session;
             return f.answer;
         }
