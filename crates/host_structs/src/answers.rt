@@ -35,15 +35,17 @@ pub struct Sent {
 }
 
 // The answer of a call that gives a number.
-pub fn numbered_told(a: Result<u64, Refusal>) -> Numbered
-    ensures { result ≡ numbered_told a }
-{
-    match a {
-        Ok(toi) => Numbered { refused: 0, toi },
-        Err(why) => Numbered {
-            refused: u32::from(why),
-            toi: 0,
-        },
+impl From<Result<u64, Refusal>> for Numbered {
+    ghost from_gives = { λ a r. r ≡ numbered_told a };
+
+    fn from(a: Result<u64, Refusal>) -> Numbered {
+        match a {
+            Ok(toi) => Numbered { refused: 0, toi },
+            Err(why) => Numbered {
+                refused: u32::from(why),
+                toi: 0,
+            },
+        }
     }
 }
 
@@ -57,12 +59,14 @@ pub fn refusal_told(a: Result<(), Refusal>) -> u32
     }
 }
 
-pub fn transfers_told(a: Option<u64>) -> Counted
-    ensures { result ≡ transfers_told a }
-{
-    Counted {
-        listed: a.is_some(),
-        total: a.unwrap_or(0),
+impl From<Option<u64>> for Counted {
+    ghost from_gives = { λ a r. r ≡ transfers_told a };
+
+    fn from(a: Option<u64>) -> Counted {
+        Counted {
+            listed: a.is_some(),
+            total: a.unwrap_or(0),
+        }
     }
 }
 

@@ -69,19 +69,21 @@ fn own_in(own: bool, z: Sizes) -> Option<Sizes>
 }
 
 // The object that is named.
-pub fn object_in(o: PlainObject) -> Object
-    ensures { result ≡ object_in o }
-{
-    let x = o.plan;
-    Object {
-        priority: o.priority,
-        part: o.part,
-        own: own_in(o.own, o.sizes),
-        most: x.most,
-        carousel: carousel_in(x),
-        target: target_in(x),
-        start: o.start,
-        stop_at_once: x.stop_at_once,
+impl From<PlainObject> for Object {
+    ghost from_gives = { λ o r. r ≡ object_in o };
+
+    fn from(o: PlainObject) -> Object {
+        let x = o.plan;
+        Object {
+            priority: o.priority,
+            part: o.part,
+            own: own_in(o.own, o.sizes),
+            most: x.most,
+            carousel: carousel_in(x),
+            target: target_in(x),
+            start: o.start,
+            stop_at_once: x.stop_at_once,
+        }
     }
 }
 
@@ -105,21 +107,23 @@ fn fdt_carousel_in(from_start: bool, interval: u64) -> Carousel
 }
 
 // The set-up that is named.
-pub fn setup_in(z: PlainSetup) -> Setup
-    ensures { result ≡ setup_in z }
-{
-    let priorities = z.priorities;
-    Setup {
-        sizes: z.sizes,
-        window: z.window,
-        count: z.count,
-        priorities,
-        width: z.width,
-        first_toi: z.first_toi,
-        first_fdt_id: z.first_fdt_id,
-        validity: z.validity,
-        carousel: fdt_carousel_in(z.from_start, z.interval),
-        object_store: z.object_store,
-        fdt_store: z.fdt_store,
+impl From<PlainSetup> for Setup {
+    ghost from_gives = { λ z r. r ≡ setup_in z };
+
+    fn from(z: PlainSetup) -> Setup {
+        let priorities = z.priorities;
+        Setup {
+            sizes: z.sizes,
+            window: z.window,
+            count: z.count,
+            priorities,
+            width: z.width,
+            first_toi: z.first_toi,
+            first_fdt_id: z.first_fdt_id,
+            validity: z.validity,
+            carousel: fdt_carousel_in(z.from_start, z.interval),
+            object_store: z.object_store,
+            fdt_store: z.fdt_store,
+        }
     }
 }

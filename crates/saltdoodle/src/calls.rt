@@ -9,14 +9,12 @@ ghost use Rattle.saltdoodle.specs.Lent.{session_at, slot_of, ReservesLent, Relea
 
 use fast_run::quick::{Numbers, glance};
 use fast_run::{Settled, settle};
-use host_structs::answers::{
-    Counted, Numbered, Sent, numbered_told, refusal_told, run_told, transfers_told,
-};
-use host_structs::inputs::{PlainObject, PlainSetup, named_in, object_in, setup_in};
+use host_structs::answers::{Counted, Numbered, Sent, refusal_told, run_told};
+use host_structs::inputs::{PlainObject, PlainSetup, named_in};
 use lifecycle::filedesc::Time;
 use lifecycle::parts::Part;
-use sender::sender::Sender;
-use sender::setup::set_up;
+use sender::sender::{Object, Sender};
+use sender::setup::{Setup, set_up};
 use sizes::limits::MOST_SESSIONS;
 
 // How many file sessions there may be, as a session is named.
@@ -26,7 +24,7 @@ const SESSIONS: u64 = MOST_SESSIONS as u64;
 pub fn sd_set_up(s: &mut Sender, z: PlainSetup) -> u32
     ensures { OpensLent z s.old s.new result }
 {
-    match set_up(setup_in(z)) {
+    match set_up(Setup::from(z)) {
         Ok(sender) => {
             *s = sender;
             refusal_told(Ok(()))
@@ -39,7 +37,7 @@ pub fn sd_reserve(s: &mut Sender) -> Numbered
     requires { ValidSender s.old }
     ensures { ReservesLent s.old s.new result }
 {
-    numbered_told(s.reserve())
+    Numbered::from(s.reserve())
 }
 
 pub fn sd_release(s: &mut Sender, toi: u64) -> u32
@@ -53,7 +51,7 @@ pub fn sd_add(s: &mut Sender, o: PlainObject) -> Numbered
     requires { ValidSender s.old }
     ensures { AddsLent o s.old s.new result }
 {
-    numbered_told(s.add(object_in(o), named_in(o)))
+    Numbered::from(s.add(Object::from(o), named_in(o)))
 }
 
 pub fn sd_remove(s: &mut Sender, toi: u64) -> bool
@@ -146,5 +144,5 @@ pub fn sd_transfers(s: &Sender, toi: u64) -> Counted
     requires { ValidSender s.now }
     ensures { TotalsTold toi s.now result }
 {
-    transfers_told(s.transfers(toi))
+    Counted::from(s.transfers(toi))
 }

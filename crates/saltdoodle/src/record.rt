@@ -44,40 +44,45 @@ fn answer_in(s: Sent) -> RunAnswer
     Ok(s.sent.then_some(s.packet))
 }
 
-fn fields_told(r: Record) -> PlainRecord
-    ensures { result ≡ fields_told r }
-{
-    PlainRecord {
-        refused: 0,
-        is_fdt: r.is_fdt,
-        close: r.close,
-        fdt_id: r.fdt_id,
-        block: r.block,
-        symbol: r.symbol,
-        toi: r.toi,
-        length: r.length,
-        total: r.total,
-        symbols: r.symbols,
+impl From<Record> for PlainRecord {
+    ghost from_gives = { λ r a. a ≡ fields_told r };
+
+    fn from(r: Record) -> PlainRecord {
+        PlainRecord {
+            refused: 0,
+            is_fdt: r.is_fdt,
+            close: r.close,
+            fdt_id: r.fdt_id,
+            block: r.block,
+            symbol: r.symbol,
+            toi: r.toi,
+            length: r.length,
+            total: r.total,
+            symbols: r.symbols,
+        }
     }
 }
 
-fn reading_told(a: Result<Record, Refusal>) -> PlainRecord
-    ensures { result ≡ reading_told a }
-{
-    match a {
-        Ok(r) => fields_told(r),
-        Err(why) => PlainRecord {
-            refused: u32::from(why),
-            is_fdt: false,
-            close: false,
-            fdt_id: 0,
-            block: Sbn(0),
-            symbol: Esi(0),
-            toi: 0,
-            length: 0,
-            total: 0,
-            symbols: 0,
-        },
+// What a read says, or the refusal with zeros.
+impl From<Result<Record, Refusal>> for PlainRecord {
+    ghost from_gives = { λ a r. r ≡ reading_told a };
+
+    fn from(a: Result<Record, Refusal>) -> PlainRecord {
+        match a {
+            Ok(r) => PlainRecord::from(r),
+            Err(why) => PlainRecord {
+                refused: u32::from(why),
+                is_fdt: false,
+                close: false,
+                fdt_id: 0,
+                block: Sbn(0),
+                symbol: Esi(0),
+                toi: 0,
+                length: 0,
+                total: 0,
+                symbols: 0,
+            },
+        }
     }
 }
 
@@ -132,5 +137,5 @@ pub fn sd_record_write(out: &mut [u8; 28], s: Sent) -> u32
 pub fn sd_record_read(bytes: &[u8; 28]) -> PlainRecord
     ensures { FieldsTold bytes.now result }
 {
-    reading_told(read(bytes))
+    PlainRecord::from(read(bytes))
 }
