@@ -2,7 +2,7 @@
 ghost use Rattle.std.specs.Prelude.{◌≤◌};
 
 use crate::reply::Reply;
-use crate::store::payload_sum;
+use crate::store::Stores;
 use drain_program::Transfer;
 use sender::sender::Packet;
 use std::fmt;
@@ -64,11 +64,11 @@ impl fmt::Display for Summed {
 }
 
 // Writes the answer to a line; nothing where it has none.
-pub fn write_reply<W: Write>(to: &mut W, objects: &[u8], fdts: &[u8], reply: Reply) {
+pub fn write_reply<W: Write>(to: &mut W, stores: &Stores, reply: Reply) {
     match reply {
         Reply::Silent => {}
         Reply::Drained(t) => write_drained(to, t),
-        _ => write_line(to, objects, fdts, reply),
+        _ => write_line(to, stores, reply),
     }
 }
 
@@ -80,22 +80,22 @@ fn write_drained<W: Write>(to: &mut W, t: Transfer) {
 }
 
 // An answer of one line.
-fn write_line<W: Write>(to: &mut W, objects: &[u8], fdts: &[u8], reply: Reply) {
+fn write_line<W: Write>(to: &mut W, stores: &Stores, reply: Reply) {
     let mut line = Line {
         bytes: [0; 512],
         used: 0,
     };
-    let _ = put_reply(&mut line, objects, fdts, reply);
+    let _ = put_reply(&mut line, stores, reply);
     let _ = writeln!(line, "");
     text::write_all(to, &line.bytes[..line.used]);
 }
 
 // Puts the text of a reply into the line; a transfer's lines are written elsewhere.
-fn put_reply(line: &mut Line, objects: &[u8], fdts: &[u8], reply: Reply) -> fmt::Result {
+fn put_reply(line: &mut Line, stores: &Stores, reply: Reply) -> fmt::Result {
     match reply {
-        Reply::Sent(packet) => put_sent(line, objects, fdts, packet),
+        Reply::Sent(packet) => put_sent(line, stores, packet),
         Reply::SentFdt { taken, packet } => {
-            put_sent(line, objects, fdts, packet)?;
+            put_sent(line, stores, packet)?;
             write!(line, " taken {}", taken as u8)
         }
         Reply::Cut(p) => {
@@ -112,10 +112,10 @@ fn put_reply(line: &mut Line, objects: &[u8], fdts: &[u8], reply: Reply) -> fmt:
 }
 
 // A run's packet, or `nothing`.
-fn put_sent(line: &mut Line, objects: &[u8], fdts: &[u8], sent: Option<Packet>) -> fmt::Result {
+fn put_sent(line: &mut Line, stores: &Stores, sent: Option<Packet>) -> fmt::Result {
     match sent {
         Some(packet) => {
-            let sum = payload_sum(objects, fdts, packet);
+            let sum = stores.payload_sum(packet);
             write!(line, "{}", Summed { packet, sum })
         }
         None => write!(line, "nothing"),

@@ -58,14 +58,24 @@ fn nearer(is_fdt: bool, c: Part) -> Part
     }
 }
 
-// The checksum of a packet's payload.
-pub fn payload_sum(objects: &[u8], fdts: &[u8], p: Packet) -> u64 {
-    let c = p.symbol.payload;
-    if ends_past(KEPT, c) {
-        let near = moved(p, nearer(p.is_fdt, c));
-        return checksum(payload(objects, fdts, Ok(Some(near))));
+// The bytes of the two stores.
+#[derive(Clone, Copy)]
+pub struct Stores<'a> {
+    pub objects: &'a [u8],
+    pub fdts: &'a [u8],
+}
+
+impl<'a> Stores<'a> {
+    // The checksum of a packet's payload.
+    pub fn payload_sum(&self, p: Packet) -> u64 {
+        let c = p.symbol.payload;
+        let near = if ends_past(KEPT, c) {
+            moved(p, nearer(p.is_fdt, c))
+        } else {
+            p
+        };
+        checksum(payload(self.objects, self.fdts, Ok(Some(near))))
     }
-    checksum(payload(objects, fdts, Ok(Some(p))))
 }
 
 // The packet with another place for its payload.
