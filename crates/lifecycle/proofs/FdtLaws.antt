@@ -1,6 +1,6 @@
 -- Laws of the calls of fdt.rt: what a valid list tells of slots and queue, and what each call comes to in each of its cases.
 use mathlib.Core.Path.{◌≡◌, refl, sym, ◌∙◌, ap, subst}
-use mathlib.Core.Bool.{Bool, true, false, not, and-false, ◌&&◌, false≢true}
+use mathlib.Core.Bool.{Bool, true, false, not, and-false, ◌&&◌}
 use Rattle.std.specs.Prelude.{Option, None, Some, Ok, Err}
 use mathlib.Core.List.{List, [], ◌∷◌}
 use Prim.Native.Nat.{ℕ, ◌+◌, ◌≤◌, ◌<◌}
@@ -11,7 +11,7 @@ use lib.ListN.{length, get_or, set, get_or-eq_default}
 use lib.Seq.{get_or-set_same, set-set}
 use Rattle.sizes.specs.declared.refusal.Refusal.{Refusal}
 use Rattle.sizes.specs.declared.refusal.Refusal.TheVariants as Because
-use Rattle.sizes.specs.Words.{maybe, given, has, place, Each, one_if, times}
+use Rattle.sizes.specs.Words.{has, place, Each, one_if, times}
 use Rattle.sizes.specs.Limits.{object_slots, toi_entries}
 use Rattle.sizes.specs.Allocator as Alloc
 use Rattle.sizes.specs.Allocator.{Allocated, claimed_of}

@@ -10,7 +10,6 @@ use lib.Dec.{ltb, eqb, leb}
 use borrow.Author.Tests.{leb-false, ltb-true, lt-ltb}
 use lib.ListN.{length, set, take, length-map, length-set}
 use lib.Seq.{append_snoc, length-take-le, get_or-take, get_or-set_other, take-set-lt, take-suc-set}
-use Rattle.std.specs.List.{list_all}
 use Rattle.sizes.specs.Words.{when◌then◌else◌, all, over, at, cut}
 use Rattle.sizes.specs.Partition.{sbn, esi, symbols_in, first_symbol}
 use Rattle.sizes.specs.declared.partition.Partition.{Partition}
