@@ -2,13 +2,12 @@
 use mathlib.Core.Path.{◌≡◌, refl, ◌∙◌, ap}
 use mathlib.Core.Bool.{Bool, true, false, ◌&&◌}
 use mathlib.Core.List.{List}
-use mathlib.Core.Logic.{⊎_elim}
 use Prim.Native.Nat.{ℕ, ◌^◌, ◌<◌, ◌≤◌}
-use borrow.Author.Tests.{lt-ltb, le-leb, leb-true, ltb-true}
+use borrow.Author.Tests.{leb-true, ltb-true}
 use lib.Dec.{leb, ltb}
 use lib.ListN.{length, get_or}
 use Rattle.sizes.specs.Words.{when◌then◌else◌}
-use Rattle.text.proofs.Lists.{bool_cases, both}
+use Rattle.text.proofs.Lists.{both}
 use Rattle.std.specs.Prelude.{Result, Ok, Err}
 use Rattle.std.specs.Result.{is_ok}
 use Rattle.sizes.specs.declared.refusal.Refusal.{Refusal}
@@ -26,17 +25,6 @@ pub record Fields (a : List ℕ) : Type 0 where
   pub symbol : get_or a 5 0 < 2 ^ 32
 
 module _ (a : List ℕ) where
-  pub but_room : Fields a → fit a ≡ leb (get_or a 9 0) 64
-  unfolding fit
-  but_room f =
-      rw (
-        le-leb (get_or a 0 0) 1 f.is_fdt,
-        le-leb (get_or a 1 0) 1 f.close,
-        lt-ltb (get_or a 2 0) (2 ^ 32) f.fdt_id,
-        lt-ltb (get_or a 4 0) (2 ^ 32) f.block,
-        lt-ltb (get_or a 5 0) (2 ^ 32) f.symbol,
-      )
-
   pub fitting : fit a ≡ true → Fields a × (get_or a 9 0 ≤ 64)
   unfolding fit
   fitting h =
@@ -58,9 +46,6 @@ module _ (a : List ℕ) where
         },
         leb-true _ _ t5.1,
       )
-
-  pub unfit : (Fields a → ⊥) → fit a ≡ false
-  unfit f = ⊎_elim (λ (t : fit a ≡ true). absurd (f (fitting t).0)) (λ (t : fit a ≡ false). t) (bool_cases (fit a))
 
 told : (a : Result (Unit {0}) Refusal) (b : Bool) → writing_said a ≡ (when b then done else refused Because.Record) → is_ok a ≡ b
 told (Ok u) true h = refl
