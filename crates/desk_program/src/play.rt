@@ -6,9 +6,7 @@ ghost use Rattle.desk_program.specs.Replies.{length_shown};
 ghost use Rattle.desk_program.specs.Plays.{Calls, SetsUp, Answers, SetUpAnswers, Stays, Holds};
 
 use crate::command::Command;
-use crate::reply::{
-    Reply, done_reply, fdt_reply, number_reply, reading_reply, record_reply, run_reply,
-};
+use crate::reply::{Reply, record_reply};
 use sender::sender::Sender;
 use sender::setup::Setup;
 use sizes::numbers::Sbn;
@@ -27,21 +25,21 @@ fn call(s: &mut Sender, c: Command) -> Reply
     ensures { Calls c s.old result s.new }
 {
     match c {
-        Command::Reserve => number_reply(s.reserve()),
-        Command::Release(toi) => done_reply(s.release(toi)),
-        Command::Add { object, named } => number_reply(s.add(object, named)),
+        Command::Reserve => Reply::from(s.reserve()),
+        Command::Release(toi) => Reply::from(s.release(toi)),
+        Command::Add { object, named } => Reply::from(s.add(object, named)),
         Command::AddNowhere => Reply::Refused(Refusal::NoPriority),
         Command::Remove(toi) => Reply::Truth(s.remove(toi)),
         Command::Trigger { toi, start } => Reply::Truth(s.trigger(toi, start)),
-        Command::Publish { clock, part } => done_reply(s.publish(clock, part)),
+        Command::Publish { clock, part } => Reply::from(s.publish(clock, part)),
         Command::Complete => {
             s.complete();
             Reply::Done
         }
         Command::Listed(toi) => Reply::Truth(s.listed(toi)),
         Command::Transfers(toi) => Reply::Number(s.transfers(toi)),
-        Command::RunFdt { clock, draft } => fdt_reply(s.run_fdt(clock, draft)),
-        Command::Run { session, clock } => run_reply(s.run(session, clock)),
+        Command::RunFdt { clock, draft } => Reply::from(s.run_fdt(clock, draft)),
+        Command::Run { session, clock } => Reply::from(s.run(session, clock)),
         _ => Reply::Error,
     }
 }
@@ -101,7 +99,7 @@ impl Desk {
             }
             Command::Drain(t) => Reply::Drained(t),
             Command::WriteRecord { record, room } => record_reply(record, room),
-            Command::ReadRecord(found) => reading_reply(found),
+            Command::ReadRecord(found) => Reply::from(found),
             _ => self.call(c),
         }
     }

@@ -35,43 +35,53 @@ pub enum Reply {
 }
 
 // To a call that gives a number.
-pub fn number_reply(a: Result<u64, Refusal>) -> Reply
-    ensures { Says (alloc_answer (given_said a)) result }
-{
-    match a {
-        Ok(n) => Reply::Toi(n),
-        Err(why) => Reply::Refused(why),
+impl From<Result<u64, Refusal>> for Reply {
+    ghost from_gives = { λ a y. Says (alloc_answer (given_said a)) y };
+
+    fn from(a: Result<u64, Refusal>) -> Reply {
+        match a {
+            Ok(n) => Reply::Toi(n),
+            Err(why) => Reply::Refused(why),
+        }
     }
 }
 
 // To a call that is done or refused.
-pub fn done_reply(a: Result<(), Refusal>) -> Reply
-    ensures { Says (alloc_answer (known_said a)) result }
-{
-    match a {
-        Ok(()) => Reply::Done,
-        Err(why) => Reply::Refused(why),
+impl From<Result<(), Refusal>> for Reply {
+    ghost from_gives = { λ a y. Says (alloc_answer (known_said a)) y };
+
+    fn from(a: Result<(), Refusal>) -> Reply {
+        match a {
+            Ok(()) => Reply::Done,
+            Err(why) => Reply::Refused(why),
+        }
     }
 }
 
-pub fn run_reply(a: RunAnswer) -> Reply
-    ensures { Says (file_answer a) result }
-{
-    match a {
-        Ok(packet) => Reply::Sent(packet),
-        Err(why) => Reply::Refused(why),
+// To a run of a file session.
+impl From<RunAnswer> for Reply {
+    ghost from_gives = { λ a y. Says (file_answer a) y };
+
+    fn from(a: RunAnswer) -> Reply {
+        match a {
+            Ok(packet) => Reply::Sent(packet),
+            Err(why) => Reply::Refused(why),
+        }
     }
 }
 
-pub fn fdt_reply(a: FdtAnswer) -> Reply
-    ensures { Says (fdt_answer a.taken a.answer) result }
-{
-    match a.answer {
-        Ok(packet) => Reply::SentFdt {
-            taken: a.taken,
-            packet,
-        },
-        Err(why) => Reply::Refused(why),
+// To a run of the FDT session.
+impl From<FdtAnswer> for Reply {
+    ghost from_gives = { λ a y. Says (fdt_answer a.taken a.answer) y };
+
+    fn from(a: FdtAnswer) -> Reply {
+        match a.answer {
+            Ok(packet) => Reply::SentFdt {
+                taken: a.taken,
+                packet,
+            },
+            Err(why) => Reply::Refused(why),
+        }
     }
 }
 
@@ -86,11 +96,14 @@ pub fn record_reply(r: Record, room: u8) -> Reply
     }
 }
 
-pub fn reading_reply(a: Result<Record, Refusal>) -> Reply
-    ensures { result ≡ reading_shown a }
-{
-    match a {
-        Ok(r) => Reply::Fields(r),
-        Err(why) => Reply::Refused(why),
+// To a record that is read.
+impl From<Result<Record, Refusal>> for Reply {
+    ghost from_gives = { λ a y. y ≡ reading_shown a };
+
+    fn from(a: Result<Record, Refusal>) -> Reply {
+        match a {
+            Ok(r) => Reply::Fields(r),
+            Err(why) => Reply::Refused(why),
+        }
     }
 }
