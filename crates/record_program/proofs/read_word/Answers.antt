@@ -29,10 +29,6 @@ module _ {w out : List ℕ} {r : Option ℕ} (h : HexRead w out r) where
       let front = part_in 0 n out zero-le low ∙ ap (λ k. take k out) (sub-zero n) in
       ap Some (f.answer ∙ ap read_answer (p ∙ front)) ∙ ap shown (ap (spelled_said out) (sym e) ∙ h.exact)
 
-pub returns-in_err-n : goal.returns-in_err-n
-returns-in_err-n c = λ short.
-    rw c.from_residual.ensures (spells_none (c.read_hex.ensures (omega arith)) c.in_err-n.was)
-
 pub returns : goal.returns
 returns c = λ short.
     spells (c.read_hex.ensures (omega arith)) _ c.in_ok-n.was c.part.ensures c.read.ensures

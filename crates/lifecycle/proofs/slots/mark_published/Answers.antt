@@ -4,11 +4,5 @@ use Rattle.sizes.proofs.Arrays.{mapped_more, mapped_all}
 use Rattle.lifecycle.specs.Slots.{no_slot, published_slot}
 use Rattle.lifecycle.proofs.slots.mark_published.Goals as goal
 
-pub loop-s-init : goal.loop-s-init
-loop-s-init c = refl
-
 pub loop-s-preserved : goal.loop-s-preserved
 loop-s-preserved c = mapped_more published_slot c.args.slots.now c.loop-s.s-index no_slot (omega arith) c.loop-s.invariant c.publish.ensures
-
-pub returns : goal.returns
-returns c = c.loop-s.invariant ∙ mapped_all published_slot c.args.slots.now c.loop-s.s-index (omega arith)

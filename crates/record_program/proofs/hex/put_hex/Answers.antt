@@ -13,7 +13,3 @@ loop-b-init c = λ room. nothing_more _ _ (omega arith)
 pub loop-b-preserved : goal.loop-b-preserved
 loop-b-preserved c =
     λ room. hex_more c.args.bytes.now c.loop-b.b-index (omega arith) room (c.loop-b.invariant room) c.put_byte-end.ensures
-
-pub returns : goal.returns
-returns c =
-    λ room. rw (take_all c.loop-b.b-index c.args.bytes.now (omega arith)) at (c.loop-b.invariant room)

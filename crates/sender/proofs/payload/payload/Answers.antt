@@ -12,11 +12,3 @@ returns-then-ends_past c =
     left_out _ c.args.answer c.in-Ok-Some.p c.if-p.store.now (c.in-Ok-Some.is ∙ ap Ok (rw c.in-Ok-Some.is at c.in-Ok-Some.field-0-is))
     (elim c.if-p.branch [ then-p w ↦ ap (λ s. s.now) w.store-is ∙ of_fdt _ _ w.if-p.true | else-p w ↦ ap (λ s. s.now) w.store-is ∙ of_object _ _ w.if-p.false ])
     (sym c.ends_past.ensures ∙ c.if-ends_past.true)
-
-pub overflow_add-result : goal.overflow_add-result
-overflow_add-result c =
-    let h = lies_in _ _ (sym c.ends_past.ensures ∙ c.if-ends_past.false) in
-    elim c.if-p.branch [
-      | then-p w ↦ let q : length c.if-p.store.now ≡ length c.args.fdts.now = ap (λ s. length s.now) w.store-is in omega arith
-      | else-p w ↦ let q : length c.if-p.store.now ≡ length c.args.objects.now = ap (λ s. length s.now) w.store-is in omega arith
-    ]

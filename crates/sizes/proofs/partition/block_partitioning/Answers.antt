@@ -25,12 +25,6 @@ returns-then-t-eq0 c =
 pub nonzero_div-small : goal.nonzero_div-small
 nonzero_div-small c = some_blocks c.div_ceil-t.result c.args.b _ (omega arith) (omega arith) c.div_ceil-n.ensures
 
-pub overflow_mul-result : goal.overflow_mul-result
-overflow_mul-result c = record { fits = omega (arith, div-mul-le_self c.div_ceil-t.result c.div_ceil-n.result) }
-
-pub overflow_sub-result : goal.overflow_sub-result
-overflow_sub-result c = div-mul-le_self _ _
-
 pub returns : goal.returns
 unfolding partition_of symbols_of split
 returns c =

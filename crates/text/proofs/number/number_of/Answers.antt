@@ -29,9 +29,6 @@ loop-b-init c =
     let all = all_from_yields_List digit _ _ c.all.result c.all.ensures.ran (YieldsList-from_slice w cc) (λ x b q k. search (rules, tests)) in
     (search (rules, tests), sym (digits_list w) ∙ sym all ∙ c.if-not-all.false, refl, omega arith)
 
-pub with_digit-requires : goal.with_digit-requires
-with_digit-requires c = digit_at _ _ c.loop-b.invariant.1 (omega arith)
-
 pub returns-in_err-n : goal.returns-in_err-n
 returns-in_err-n c =
     let w = c.args.w.now in

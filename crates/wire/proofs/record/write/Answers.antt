@@ -11,15 +11,6 @@ returns-then-out-lt-RECORD_SIZE c =
       | then-out-lt-RECORD_SIZE-via-else-out-lt-RECORD_SIZE+then-not-is_good w ↦ write_bad _ _ w.if-out-lt-RECORD_SIZE.false (sym w.is_good.ensures ∙ w.if-not-is_good.true)
     ]
 
-pub first-requires : goal.first-requires
-first-requires c = sym c.is_good.ensures ∙ c.if-not-is_good.false
-
-pub second-requires : goal.second-requires
-second-requires c = sym c.is_good.ensures ∙ c.if-not-is_good.false
-
-pub third-requires : goal.third-requires
-third-requires c = sym c.is_good.ensures ∙ c.if-not-is_good.false
-
 pub returns : goal.returns
 returns c =
     write_words _ _ _ _ _ _ _ c.if-out-lt-RECORD_SIZE.false (sym c.is_good.ensures ∙ c.if-not-is_good.false) c.put_words.ensures c.first.ensures
