@@ -22,8 +22,8 @@ use Rattle.sizes.proofs.Arrays.{each_get}
 use Rattle.sizes.proofs.Tables.{one_true, one_most, inside}
 use Rattle.sizes.proofs.AllocatorViews.{allocated_cases}
 use Rattle.lifecycle.proofs.FdtFacts as Facts
-use Rattle.lifecycle.specs.Lifecycle.{expired}
-use Rattle.lifecycle.specs.FileDesc.{plan_of, life_of, with_life, reset_life}
+use Rattle.lifecycle.specs.Lifecycle.{expired, may_start}
+use Rattle.lifecycle.specs.FileDesc.{plan_of, life_of, with_life, reset_life, startable_file}
 use Rattle.lifecycle.specs.Slots.{no_slot, slot_at, is_free, is_listed_as, queue_startable}
 use Rattle.lifecycle.specs.Setup.{bad_blocks}
 use Rattle.lifecycle.specs.FdtCalls.{waiting, sends, waits, ValidFdt, with_tois, with_slots, own_of, bad_part_of, put_of, refuses, named_of, fresh_of, numbered_of, added_of, transfers_of, unlisted_of, freed_of, removed_of, triggered_of, taken_at, taken_of, ended_file, goes_back, back_of, let_go_of, done_of}
@@ -93,6 +93,11 @@ module _ (f : Fdt) (v : ValidFdt f) where
       let g = at_take f.queue f.queued n h.0 h.1.stands in
       let a = v.queued in let b = v.queue_long in
       (g, omega arith, each_get (λ k. k < object_slots) f.queued f.queue (omega arith) n 0 g queue_inside)
+
+-- past the last slot there is nothing to start
+pub past_starts : (l : List Slot) (p now k : ℕ) → length l ≤ k → queue_startable l p now k ≡ false
+unfolding queue_startable startable_file may_start
+past_starts l p now k h = ap (λ (v : Slot). startable_file p now v.file) (get_or-eq_default l no_slot h) ∙ and-false (eqb 0 p)
 
 -- slot k is written twice
 pub twice : (l : List Slot) (k : ℕ) → k < length l → (v : Slot) (g : Slot → Slot) → set (set l k v) k (g (slot_at (set l k v) k)) ≡ set l k (g v)

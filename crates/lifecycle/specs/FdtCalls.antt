@@ -275,11 +275,6 @@ with_published f a = record { settings = f.settings; complete = f.complete; tois
 abbrev pub with_announcer : Fdt → Announcer → Fdt
 with_announcer f a = record { settings = f.settings; complete = f.complete; tois = f.tois; slots = f.slots; queue = f.queue; queued = f.queued; announcer = a }
 
--- what a publish says
-abbrev pub publication_said : Result (Unit {0}) Refusal → Alloc.Said
-publication_said (Ok u) = Alloc.Said.done
-publication_said (Err why) = Alloc.Said.refused why
-
 -- why an add is refused; none where the object was admitted
 abbrev pub refusal : Result ℕ Refusal → Option Refusal
 refusal (Ok t) = None

@@ -89,18 +89,21 @@ fn own_sizes(own: Option<Sizes>, z: Sizes) -> Sizes
 }
 
 impl Fdt {
+    // May a session of this priority start the object in slot k?
+    fn may_start(&self, k: usize, priority: u32, at: u64) -> bool
+        ensures { result ≡ queue_startable self.now.slots priority at k }
+    {
+        k < OBJECT_SLOTS && self.slots[k].file.should_transfer_now(priority, at)
+    }
+
     // The place in the queue of the first object that a session of this priority may start.
     fn first_startable(&self, priority: u32, at: u64) -> Option<usize>
         requires { ValidFdt self.now }
         ensures { result ≡ place (queue_startable self.now.slots priority at) (waiting self.now) }
     {
-        for i in 0..self.queued {
-            let k = self.queue[i];
-            if self.slots[k].file.should_transfer_now(priority, at) {
-                return Some(i);
-            }
-        }
-        None
+        self.queue[..self.queued]
+            .iter()
+            .position(|k| self.may_start(*k, priority, at))
     }
 
     // The place of a slot in the queue.

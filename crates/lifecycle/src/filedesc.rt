@@ -112,26 +112,6 @@ fn is_before(now: u64, t: Time) -> bool
 }
 
 impl Plan {
-    // Is the maximum of transfers reached, with no carousel?
-    fn is_expired(self, x: Life) -> bool
-        ensures { result ≡ expired (plan_of self) (life_of x) }
-    {
-        self.most <= x.count && !self.repeats
-    }
-
-    // Is the transfer under way the last one?
-    fn is_last_transfer(self, x: Life) -> bool
-        ensures { result ≡ is_last (plan_of self) (life_of x) }
-    {
-        if self.repeats {
-            return false;
-        }
-        if self.most == 0 {
-            return false;
-        }
-        self.most - 1 == x.count
-    }
-
     // May a new round begin?
     fn is_round_due(self, x: Life, now: u64) -> bool
         ensures { result ≡ round_due (plan_of self) now (life_of x) }
@@ -221,13 +201,6 @@ impl Plan {
             }
         }
         self
-    }
-
-    // May a transfer be cut short: allowed at once, or sent before?
-    fn may_be_stopped(self, x: Life) -> bool
-        ensures { result ≡ may_stop (plan_of self) (life_of x) }
-    {
-        self.stop_at_once || 0 < x.total
     }
 
     // The pace of a transfer of l bytes in symbols of e that starts now: the first packet is due at once.
@@ -342,14 +315,20 @@ impl FileDesc {
     pub fn is_expired(&self) -> bool
         ensures { result ≡ expired (plan_of self.now.plan) (life_of self.now.life) }
     {
-        self.plan.is_expired(self.life)
+        self.plan.most <= self.life.count && !self.plan.repeats
     }
 
     // Is the transfer under way the last one?
     pub fn is_last_transfer(&self) -> bool
         ensures { result ≡ is_last (plan_of self.now.plan) (life_of self.now.life) }
     {
-        self.plan.is_last_transfer(self.life)
+        if self.plan.repeats {
+            return false;
+        }
+        if self.plan.most == 0 {
+            return false;
+        }
+        self.plan.most - 1 == self.life.count
     }
 
     // May a session of this priority start it now?
@@ -361,11 +340,11 @@ impl FileDesc {
             && self.plan.may_start_now(self.life, at)
     }
 
-    // May its transfer be cut short?
+    // May its transfer be cut short: allowed at once, or sent before?
     pub fn can_transfer_be_stopped(&self) -> bool
         ensures { result ≡ may_stop (plan_of self.now.plan) (life_of self.now.life) }
     {
-        self.plan.may_be_stopped(self.life)
+        self.plan.stop_at_once || 0 < self.life.total
     }
 
     // The pace of its next transfer, which starts now.

@@ -15,7 +15,7 @@ use Rattle.lifecycle.specs.Setup.{Setup, bad_blocks}
 use Rattle.lifecycle.specs.FileDesc.{pace_said}
 use Rattle.lifecycle.specs.Slots.{slot_at, published_slot}
 use Rattle.lifecycle.specs.Announce.{state_of, queued_of}
-use Rattle.lifecycle.specs.FdtCalls.{files, sends, with_slots, with_published, publication_said}
+use Rattle.lifecycle.specs.FdtCalls.{files, sends, with_slots, with_published}
 use Rattle.lifecycle.proofs.FdtMeans.{published_file}
 use Rattle.lifecycle.specs.declared.parts.Part.{Part}
 use Rattle.lifecycle.specs.declared.filedesc.FileDesc.{FileDesc}
@@ -132,12 +132,12 @@ module _ (s : Sender) (now : ℕ) (c : Part) (v : ValidSender s) where
 
   -- refusals 4, 5 and 7 in their order; else it is done
   pub publish_kept : Holds (publishing_of now c s).sender.fdt → FdtHolds (publishing_of now c s).sender.fdt
-      → Kept s (Def.Call.publish now c) (alloc_answer (publication_said (publishing_of now c s).answer)) (publishing_of now c s).sender
+      → Kept s (Def.Call.publish now c) (alloc_answer (Alloc.known_said (publishing_of now c s).answer)) (publishing_of now c s).sender
   unfolding publishing_of
   publish_kept = subst Goes (sym (publish_as c s.fdt now)) (by (publish_refusal_of c s.fdt) refl)
     where
       Goes : Published → Type 0
-      Goes r = Holds r.fdt → FdtHolds r.fdt → Kept s (Def.Call.publish now c) (alloc_answer (publication_said r.answer)) (with_list s r.fdt)
+      Goes r = Holds r.fdt → FdtHolds r.fdt → Kept s (Def.Call.publish now c) (alloc_answer (Alloc.known_said r.answer)) (with_list s r.fdt)
 
       by : (o : Option Refusal) → publish_refusal_of c s.fdt ≡ o → Goes (published_by c s.fdt now o)
       by (Some why) e a b = publish_refused why (λ u g. refusal_view u s v g c ∙ e)

@@ -17,7 +17,7 @@ use Rattle.sizes.proofs.AllocatorViews.{allocated_cases, dropped_cases}
 use Rattle.lifecycle.specs.Setup.{sound}
 use Rattle.lifecycle.specs.Setup.{Setup as DefSetup}
 use Rattle.lifecycle.specs.Slots.{slot_at}
-use Rattle.lifecycle.specs.FdtCalls.{with_tois, added_of, own_of, publication_said, real_draft, draft_test_of}
+use Rattle.lifecycle.specs.FdtCalls.{with_tois, added_of, own_of, real_draft, draft_test_of}
 use Rattle.lifecycle.proofs.FdtMeans.{ListAdds}
 use Rattle.lifecycle.specs.declared.parts.Part.{Part}
 use Rattle.lifecycle.specs.FdtCalls.{Added}
@@ -165,11 +165,11 @@ module _ (s : Sender) where
   refused_add v o named = if_on (λ (x : Adding). refuses (add_answer x.answer) → x.sender ≡ s) (any (has_priority o.priority) (working s))
       (λ h. refused_added o named (added_of s.fdt (request_of o) named) (added_view s.fdt v.holds.valid (request_of o) named)) (λ h e. refl)
 
-  refused_publish : (now : ℕ) (c : Part) → refuses (alloc_answer (publication_said (publishing_of now c s).answer)) → (publishing_of now c s).sender ≡ s
+  refused_publish : (now : ℕ) (c : Part) → refuses (alloc_answer (Alloc.known_said (publishing_of now c s).answer)) → (publishing_of now c s).sender ≡ s
   unfolding publishing_of
-  refused_publish now c = subst (λ (r : Published). refuses (alloc_answer (publication_said r.answer)) → with_list s r.fdt ≡ s) (sym (publish_as c s.fdt now)) (by (publish_refusal_of c s.fdt))
+  refused_publish now c = subst (λ (r : Published). refuses (alloc_answer (Alloc.known_said r.answer)) → with_list s r.fdt ≡ s) (sym (publish_as c s.fdt now)) (by (publish_refusal_of c s.fdt))
     where
-      by : (o : Option Refusal) → refuses (alloc_answer (publication_said (published_by c s.fdt now o).answer)) → with_list s (published_by c s.fdt now o).fdt ≡ s
+      by : (o : Option Refusal) → refuses (alloc_answer (Alloc.known_said (published_by c s.fdt now o).answer)) → with_list s (published_by c s.fdt now o).fdt ≡ s
       by None e = absurd (false≢true e)
       by (Some why) e = refl
 

@@ -9,7 +9,7 @@ use Rattle.sizes.specs.Allocator as Alloc
 use Rattle.lifecycle.specs.Setup.{Setup as DefSetup}
 use Rattle.lifecycle.specs.FileDesc.{time_of, plan_named, carousel_named, target_named}
 use Rattle.lifecycle.specs.Slots.{no_slot, slot_at}
-use Rattle.lifecycle.specs.FdtCalls.{sends, publication_said, real_draft, draft_test_of, reserved_of, released_of, added_of, removed_of, triggered_of, is_added_of, transfers_of, completed_of, publish_of}
+use Rattle.lifecycle.specs.FdtCalls.{sends, real_draft, draft_test_of, reserved_of, released_of, added_of, removed_of, triggered_of, is_added_of, transfers_of, completed_of, publish_of}
 use Rattle.lifecycle.specs.declared.parts.Part.{Part}
 use Rattle.lifecycle.specs.declared.filedesc.Time.{Time}
 use Rattle.lifecycle.specs.declared.fdt.Fdt.{Fdt}
@@ -265,7 +265,7 @@ pub record Completes (s r : Sender) : Type 0 where
 
 pub record Publishes (now : ℕ) (c : Part) (s : Sender) (r : Publishing) : Type 0 where
   pub exact : r ≡ publishing_of now c s
-  pub kept : Kept s (Def.Call.publish now c) (alloc_answer (publication_said r.answer)) r.sender
+  pub kept : Kept s (Def.Call.publish now c) (alloc_answer (Alloc.known_said r.answer)) r.sender
 
 pub record RunsFdt (now : ℕ) (draft : Option Part) (s : Sender) (r : Running) : Type 0 where
   pub exact : r ≡ fdt_running_of now draft s

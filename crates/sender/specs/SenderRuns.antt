@@ -3,7 +3,7 @@ use Rattle.std.specs.Prelude.{◌≡◌, Bool, true, not, ◌&&◌, List, [], �
 use Rattle.sizes.specs.Words.{when◌then◌else◌, given}
 use Rattle.sizes.specs.Allocator as Alloc
 use Rattle.lifecycle.specs.FileDesc.{time_of}
-use Rattle.lifecycle.specs.FdtCalls.{is_added_of, transfers_of, publication_said}
+use Rattle.lifecycle.specs.FdtCalls.{is_added_of, transfers_of}
 use Rattle.lifecycle.specs.declared.parts.Part.{Part}
 use Rattle.lifecycle.specs.declared.filedesc.Time.{Time}
 use Rattle.definition.specs.Desk as Def
@@ -54,7 +54,7 @@ answered s (trigger t start) = (Def.Answer.truth (prompting_of t start s).yes, (
 answered s (listed t) = (Def.Answer.truth (is_added_of t s.fdt), s)
 answered s (transfers t) = (Def.Answer.transferred (transfers_of t s.fdt), s)
 answered s complete = (Def.Answer.done, completing_of s)
-answered s (publish now c) = (alloc_answer (publication_said (publishing_of now c s).answer), (publishing_of now c s).sender)
+answered s (publish now c) = (alloc_answer (Alloc.known_said (publishing_of now c s).answer), (publishing_of now c s).sender)
 answered s (run_fdt now draft) = (fdt_answer (fdt_running_of now draft s).taken (fdt_running_of now draft s).answer, (fdt_running_of now draft s).sender)
 answered s (run_file i now) = (file_answer (running_of i now s).answer, (running_of i now s).sender)
 

@@ -1,6 +1,5 @@
-use mathlib.Core.Path.{refl, ◌∙◌}
 use native.Mathlib.Omega.{arith}
-use Rattle.sizes.proofs.Arrays.{mapped_more, mapped_all}
+use Rattle.sizes.proofs.Arrays.{mapped_more}
 use Rattle.lifecycle.specs.Slots.{no_slot, published_slot}
 use Rattle.lifecycle.proofs.slots.mark_published.Goals as goal
 

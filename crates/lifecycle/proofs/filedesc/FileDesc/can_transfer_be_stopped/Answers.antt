@@ -1,5 +1,5 @@
 use Rattle.lifecycle.specs.Lifecycle.{may_stop}
-use Rattle.lifecycle.proofs.filedesc.Plan.may_be_stopped.Goals as goal
+use Rattle.lifecycle.proofs.filedesc.FileDesc.can_transfer_be_stopped.Goals as goal
 
 pub returns-then-self : goal.returns-then-self
 unfolding may_stop
