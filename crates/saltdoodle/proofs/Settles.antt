@@ -119,6 +119,11 @@ module _ (s : Sender) (ok : ValidSender s) (i now : ℕ) where
       (λ busy. lent_by busy r (sym (goes s.fdt.announcer.waiting now t x busy) ∙ e))
       (λ idle. let z : None ≡ Some r = sym (idles s.fdt.announcer.waiting now t x idle) ∙ e in cc)
 
+-- three numbers say how a run is settled
+pub glances : (s : Sender) → ValidSender s → (i now : ℕ) (r : Numbers) → Quick s.fdt.announcer.waiting now (slot_of s i) (session_at s i) r
+    → RunsFileLent i now s (with_session i (stepped (session_at s i) r.place r.esi r.next r.due) s) r.answer
+glances s ok i now r q = settles s ok i now (record { answer = r.answer; session = stepped (session_at s i) r.place r.esi r.next r.due }) q.exact
+
 -- a session as a run reads it: at any value for what lies past the end
 module _ (s : Sender) (ok : ValidSender s) (i : ℕ) (within : i < 4) (d : SenderSession) where
   session_read : session_at s i ≡ get_or s.sessions i d
@@ -127,8 +132,6 @@ module _ (s : Sender) (ok : ValidSender s) (i : ℕ) (within : i < 4) (d : Sende
   pub read_valid : ValidSession (get_or s.sessions i d)
   read_valid = subst ValidSession session_read (session_valid s ok i)
 
-  -- three numbers say how a run is settled
-  pub glances : (now : ℕ) (r : Numbers) → Quick s.fdt.announcer.waiting now (slot_of s i) (session_at s i) r
+  pub glances_read : (now : ℕ) (r : Numbers) → Quick s.fdt.announcer.waiting now (slot_of s i) (session_at s i) r
       → RunsFileLent i now s (with_session i (stepped (get_or s.sessions i d) r.place r.esi r.next r.due) s) r.answer
-  glances now r q = subst (λ (x : SenderSession). RunsFileLent i now s (with_session i (stepped x r.place r.esi r.next r.due) s) r.answer) session_read
-      (settles s ok i now (record { answer = r.answer; session = stepped (session_at s i) r.place r.esi r.next r.due }) q.exact)
+  glances_read now r q = subst (λ (x : SenderSession). RunsFileLent i now s (with_session i (stepped x r.place r.esi r.next r.due) s) r.answer) session_read (glances s ok i now r q)
