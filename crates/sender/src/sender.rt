@@ -73,15 +73,17 @@ fn run_answer(answer: Outcome, is_fdt: bool, toi: u64, fdt_id: u32) -> RunAnswer
 }
 
 // What the list is asked for an object.
-fn request(o: Object) -> Request
-    ensures { result ≡ request_of o }
-{
-    Request {
-        priority: o.priority,
-        part: o.part,
-        own: o.own,
-        plan: Plan::new(o.most, o.carousel, o.target, o.stop_at_once),
-        start: o.start,
+impl From<Object> for Request {
+    ghost from_gives = { λ o r. r ≡ request_of o };
+
+    fn from(o: Object) -> Request {
+        Request {
+            priority: o.priority,
+            part: o.part,
+            own: o.own,
+            plan: Plan::new(o.most, o.carousel, o.target, o.stop_at_once),
+            start: o.start,
+        }
     }
 }
 
@@ -168,7 +170,7 @@ impl Sender {
         if !self.has_priority(o.priority) {
             return Err(Refusal::NoPriority);
         }
-        self.fdt.add_object(request(o), named)
+        self.fdt.add_object(Request::from(o), named)
     }
 
     // The FDT session, with a draft or none.

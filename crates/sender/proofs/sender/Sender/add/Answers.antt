@@ -13,7 +13,7 @@ returns-then-not-has_priority c =
 pub returns : goal.returns
 returns c =
     let s = c.args.self.now in
-    let e = ap (λ (q : Request). added_of s.fdt q c.args.named) (sym c.request.ensures) ∙ c.add_object.ensures in
+    let e = ap (λ (q : Request). added_of s.fdt q c.args.named) (sym c.from.ensures) ∙ c.add_object.ensures in
     let g : Added → Adding = λ y. record { answer = y.answer; sender = with_list s y.fdt } in
     subst (Adds c.args.o c.args.named s)
     (add_goes c.args.o c.args.named s (sym c.has_priority.ensures ∙ c.if-not-has_priority.false) ∙ ap g e)

@@ -1,5 +1,5 @@
 use Rattle.sender.specs.SenderCalls.{request_of}
-use Rattle.sender.proofs.sender.request.Goals as goal
+use Rattle.sender.proofs.sender.RequestFromObject.from.Goals as goal
 
 pub returns : goal.returns
 unfolding request_of
