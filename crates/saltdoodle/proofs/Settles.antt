@@ -6,12 +6,13 @@ use Prim.Native.Nat.{ℕ, ◌<◌, ◌≤◌}
 use native.Mathlib.Omega.{arith}
 use lib.Dec.{ltb}
 use borrow.Author.Tests.{ltb-true, ltb-false}
-use lib.ListN.{get_or}
-use Rattle.std.proofs.lemmas.List.{get_or_default}
+use mathlib.Core.List.{List}
+use lib.ListN.{get_or, set, length, length-set}
+use Rattle.std.proofs.lemmas.List.{get_or_default, get_or-set_same, set-set}
 use Rattle.sizes.specs.Words.{when◌then◌else◌}
 use Rattle.lifecycle.specs.Lifecycle.{too_early}
 use Rattle.lifecycle.specs.FileDesc.{pace_said}
-use Rattle.lifecycle.specs.Slots.{slot_at}
+use Rattle.lifecycle.specs.Slots.{slot_at, no_slot}
 use Rattle.lifecycle.specs.Announce.{waits_of}
 use Rattle.lifecycle.specs.declared.slots.Slot.{Slot}
 use Rattle.lifecycle.specs.declared.fdt.Fdt.{Fdt}
@@ -52,6 +53,10 @@ module _ (s : Sender) (ok : ValidSender s) (i : ℕ) where
 
   pub session_valid : ValidSession (session_at s i)
   session_valid = record { busy = λ e. ((ok.sessions i (used e)).busy e).encoder }
+
+  pub slot_below : (session_at s i).slot < 32
+  slot_below = of_bool ((session_at s i).slot < 32) (session_at s i).busy (λ e. ((ok.sessions i (used e)).busy e).slot) (λ e.
+      of_order ((session_at s i).slot < 32) i s.count (λ h. let z = ap (λ (x : SenderSession). x.slot) ((ok.sessions i h).idle e) in omega arith) (λ h. let z = ap (λ (x : SenderSession). x.slot) (ok.spare i h) in omega arith))
 
 -- ---- what a service comes to
 
@@ -124,14 +129,38 @@ pub glances : (s : Sender) → ValidSender s → (i now : ℕ) (r : Numbers) →
     → RunsFileLent i now s (with_session i (stepped (session_at s i) r.place r.esi r.next r.due) s) r.answer
 glances s ok i now r q = settles s ok i now (record { answer = r.answer; session = stepped (session_at s i) r.place r.esi r.next r.due }) q.exact
 
--- a session as a run reads it: at any value for what lies past the end
+-- ---- as a run reads it: at any value for what lies past the end
+
 module _ (s : Sender) (ok : ValidSender s) (i : ℕ) (within : i < 4) (d : SenderSession) where
-  session_read : session_at s i ≡ get_or s.sessions i d
-  session_read = sym (get_or_default s.sessions i d (idle_of 0) (omega (arith, ok.long)))
+  abbrev read : SenderSession
+  read = get_or s.sessions i d
 
-  pub read_valid : ValidSession (get_or s.sessions i d)
-  read_valid = subst ValidSession session_read (session_valid s ok i)
+  pub session_read : read ≡ session_at s i
+  session_read = get_or_default s.sessions i d (idle_of 0) (omega (arith, ok.long))
 
-  pub glances_read : (now : ℕ) (r : Numbers) → Quick s.fdt.announcer.waiting now (slot_of s i) (session_at s i) r
-      → RunsFileLent i now s (with_session i (stepped (get_or s.sessions i d) r.place r.esi r.next r.due) s) r.answer
-  glances_read now r q = subst (λ (x : SenderSession). RunsFileLent i now s (with_session i (stepped x r.place r.esi r.next r.due) s) r.answer) session_read (glances s ok i now r q)
+  pub read_valid : ValidSession read
+  read_valid = subst ValidSession (sym session_read) (session_valid s ok i)
+
+  -- the numbers are those of the session by name, and are stored in the one that is read
+  pub glances_stored : (now : ℕ) (r : Numbers) → Quick s.fdt.announcer.waiting now (slot_of s i) (session_at s i) r
+      → RunsFileLent i now s (with_session i (stepped read r.place r.esi r.next r.due) s) r.answer
+  glances_stored now r q = subst (λ (x : SenderSession). RunsFileLent i now s (with_session i (stepped x r.place r.esi r.next r.due) s) r.answer) (sym session_read) (glances s ok i now r q)
+
+  module _ (e : Slot) where
+    slot_read : get_or s.fdt.slots (session_at s i).slot e ≡ slot_of s i
+    slot_read = get_or_default s.fdt.slots (session_at s i).slot e no_slot (omega (arith, slot_below s ok i, ok.holds.valid.slots_long))
+
+    pub settles_read : (now : ℕ) (r : Settled) → settled_of s.fdt.announcer.waiting now (get_or s.fdt.slots read.slot e) read ≡ Some r → RunsFileLent i now s (with_session i r.session s) r.answer
+    settles_read now r z = settles s ok i now r (sym (ap (λ (t : Slot). settled_of s.fdt.announcer.waiting now t (session_at s i)) slot_read)
+        ∙ sym (ap (λ (x : SenderSession). settled_of s.fdt.announcer.waiting now (get_or s.fdt.slots x.slot e) x) session_read) ∙ z)
+
+    pub glances_read : (now : ℕ) (r : Numbers) → Quick s.fdt.announcer.waiting now (get_or s.fdt.slots read.slot e) read r → RunsFileLent i now s (with_session i (stepped read r.place r.esi r.next r.due) s) r.answer
+    glances_read now r q = settles_read now (record { answer = r.answer; session = stepped read r.place r.esi r.next r.due }) q.exact
+
+-- an element that is changed three times
+pub changed_thrice : {X : Type 0} (l : List X) (i : ℕ) (d : X) (f g h : X → X) → i < length l
+    → set (set (set l i (f (get_or l i d))) i (g (get_or (set l i (f (get_or l i d))) i d))) i (h (get_or (set (set l i (f (get_or l i d))) i (g (get_or (set l i (f (get_or l i d))) i d))) i d)) ≡ set l i (h (g (f (get_or l i d))))
+changed_thrice l i d f g h lt =
+    let a = get_or-set_same l i (f (get_or l i d)) d lt in
+    let b = get_or-set_same (set l i (f (get_or l i d))) i (g (get_or (set l i (f (get_or l i d))) i d)) d (omega (arith, length-set l i (f (get_or l i d)))) in
+    rw (b, a) (simp set-set)
