@@ -1,8 +1,5 @@
-use mathlib.Core.Path.{◌≡◌, sym, ◌∙◌, ap}
-use native.Mathlib.Omega.{arith}
-use lib.ListN.{length}
+use mathlib.Core.Path.{sym, ◌∙◌, ap}
 use Rattle.std.specs.Prelude.{Ok}
-use Rattle.lifecycle.proofs.PartLaws.{lies_in}
 use Rattle.sender.proofs.PayloadLaws.{of_fdt, of_object, left_out}
 use Rattle.sender.proofs.payload.payload.Goals as goal
 use Rattle.sender.proofs.payload.payload.Goals.{then-p, else-p}
