@@ -9,12 +9,9 @@ ghost use Rattle.drain_program.specs.DrainCalls.{drain_refuses, packet_line, Dra
 use lifecycle::fdt::are_bad_blocks;
 use lifecycle::parts::Part;
 use sender::blockencoder::{BlockEncoder, Content, Symbol};
-use sizes::limits::{LARGEST_WINDOW, LONGEST_STORE};
+use sizes::limits::{LARGEST_NAMED_WINDOW, LONGEST_STORE};
 use sizes::numbers::{Esi, Sbn};
 use sizes::partition::Sizes;
-
-// The largest window, as a line names it.
-const LARGEST_NAMED_WINDOW: u64 = LARGEST_WINDOW as u64;
 
 // The numbers of a transfer: its length, E and B, and how many blocks are open at a time.
 #[derive(Clone, Copy)]

@@ -1,24 +1,23 @@
 -- Set-up: which numbers are in their ranges, and that the sender which it opens is the definition's opening desk.
 use mathlib.Core.Path.{◌≡◌, refl, sym, ◌∙◌, ap, subst}
 use mathlib.Core.Bool.{Bool, true, false, ◌&&◌, false≢true}
-use Rattle.std.specs.Prelude.{None, Some, Ok, Err, is_some}
+use Rattle.std.specs.Prelude.{None, Some, Ok, Err}
 use Rattle.sizes.specs.declared.refusal.Refusal.TheVariants as Because
 use mathlib.Core.List.{List, [], ◌∷◌, map}
 use Prim.Native.Nat.{ℕ, zero, suc, ◌≤◌}
 use native.Mathlib.Omega.{arith}
-use lib.Dec.{eqb, leb}
+use lib.Dec.{leb}
 use lib.ListN.{length, get_or, take, replicate, length-replicate}
 use lib.Seq.{length-take-le}
-use borrow.Author.Tests.{eqb-true, eqb-false, ne_eqb, le-leb, le-ltb, leb-true}
+use borrow.Author.Tests.{le-leb, le-ltb, leb-true}
 use mir.Syntax.{w32}
 use mir.Val.{Fits}
 use Rattle.sizes.specs.Words.{when◌then◌else◌, all, has, within, collect, one_if, times}
 use Rattle.sizes.specs.Limits.{most_sessions, largest_window, largest_priority, longest_store, largest_fdt_id}
 use Rattle.sizes.specs.Allocator as Alloc
 use Rattle.sizes.specs.declared.toiallocator.ToiAllocator.{ToiAllocator}
-use Rattle.sizes.specs.declared.toiallocator.ToiMaxLength.{ToiMaxLength}
-use Rattle.sizes.specs.declared.toiallocator.ToiMaxLength.TheVariants.{ToiMax16, ToiMax32, ToiMax48, ToiMax64}
 use Rattle.sizes.proofs.Tests.{Tested, pass, fail, tested}
+use Rattle.sizes.proofs.Widths.{a_wide}
 use Rattle.sizes.proofs.AllocatorViews.{opened_view, opened_next}
 use Rattle.lifecycle.specs.Lifecycle as Life
 use Rattle.lifecycle.specs.Setup.{sound, sound_sizes, widths}
@@ -38,7 +37,7 @@ use Rattle.sender.proofs.SessionFacts.{idle_stands}
 use Rattle.sender.specs.SessionCalls.{idle_of, object_of, session_of}
 use Rattle.sender.specs.SessionMeans.{Stands, fdt_carousel_of}
 use Rattle.sender.specs.SenderCalls.{desk_of, Agrees, ValidSender, slot_in}
-use Rattle.sender.specs.SetupCalls.{priorities_said, setup_said, width_said, is_interval, interval_in, settings_of, priority_at, opening_sender, opened_of, Opens}
+use Rattle.sender.specs.SetupCalls.{priorities_said, setup_said, is_interval, interval_in, settings_of, priority_at, opening_sender, opened_of, Opens}
 use Rattle.sender.specs.declared.sendersession.SenderSession.{SenderSession}
 use Rattle.sender.specs.declared.setup.Setup.{Setup}
 
@@ -78,75 +77,6 @@ pub sound_by : (z : Setup) → ((i : ℕ) → Fits w32 (get_or z.priorities i 0)
     ≡ (within 1 most_sessions (length (priorities_said z)) && within 1 largest_window z.window && sound_sizes z.sizes
     && leb z.object_store longest_store && leb z.fdt_store longest_store && has z.width widths && leb z.first_fdt_id largest_fdt_id)
 sound_by z h = sound_tests (setup_said z) (small_named z h)
-
--- ---- widths
-
-bits_has : (w : ToiMaxLength) → has (Alloc.bits w) widths ≡ true
-bits_has ToiMax16 = refl
-bits_has ToiMax32 = refl
-bits_has ToiMax48 = refl
-bits_has ToiMax64 = refl
-
-bits_said : (w : ToiMaxLength) → width_said (Alloc.bits w) ≡ Some w
-unfolding width_said
-bits_said ToiMax16 = refl
-bits_said ToiMax32 = refl
-bits_said ToiMax48 = refl
-bits_said ToiMax64 = refl
-
--- a number is one of the four widths, or none of them
-data Wide (n : ℕ) : Type 0 where
-  one : (w : ToiMaxLength) → n ≡ Alloc.bits w → Wide n
-  other : has n widths ≡ false → width_said n ≡ None → Wide n
-
-module _ (n : ℕ) where
-  wide : Wide n
-  unfolding width_said
-  wide = go (tested (eqb n 16)) (tested (eqb n 32)) (tested (eqb n 48)) (tested (eqb n 64))
-    where
-      turned : (m : ℕ) → eqb n m ≡ false → eqb m n ≡ false
-      turned m e = ne_eqb m n (λ q. eqb-false n m e (sym q))
-
-      go : Tested (eqb n 16) → Tested (eqb n 32) → Tested (eqb n 48) → Tested (eqb n 64) → Wide n
-      go (pass p) x y z = one ToiMax16 (eqb-true n 16 p)
-      go (fail p) (pass q) y z = one ToiMax32 (eqb-true n 32 q)
-      go (fail p) (fail q) (pass r) z = one ToiMax48 (eqb-true n 48 r)
-      go (fail p) (fail q) (fail r) (pass s) = one ToiMax64 (eqb-true n 64 s)
-      go (fail p) (fail q) (fail r) (fail s) = other (rw (turned 16 p, turned 32 q, turned 48 r, turned 64 s)) (rw (p, q, r, s))
-
-  unlike : (w : ToiMaxLength) → Some w ≡ None → ⊥
-  unlike w e = cc
-
-  -- what the code finds
-  pub width_bad : width_said n ≡ None → has n widths ≡ false
-  width_bad e = go wide
-    where
-      go : Wide n → has n widths ≡ false
-      go (one w q) = absurd (unlike w (sym (ap width_said q ∙ bits_said w) ∙ e))
-      go (other h q) = h
-
-  pub width_is : (w : ToiMaxLength) → width_said n ≡ Some w → n ≡ Alloc.bits w
-  width_is w e = go wide
-    where
-      go : Wide n → n ≡ Alloc.bits w
-      go (one v q) = let r = sym (ap width_said q ∙ bits_said v) ∙ e in let x : v ≡ w = cc in q ∙ ap Alloc.bits x
-      go (other h q) = absurd (unlike w (sym e ∙ q))
-
-  -- is it one of the four
-  pub width_given : is_some (width_said n) ≡ has n widths
-  width_given = go wide
-    where
-      go : Wide n → is_some (width_said n) ≡ has n widths
-      go (one w q) = ap is_some (ap width_said q ∙ bits_said w) ∙ sym (ap (λ m. has m widths) q ∙ bits_has w)
-      go (other h q) = ap is_some q ∙ sym h
-
-  -- one of the four
-  a_wide : has n widths ≡ true → Alloc.Width n
-  a_wide e = go wide
-    where
-      go : Wide n → Alloc.Width n
-      go (one w q) = (w, q)
-      go (other h q) = absurd (false≢true (sym h ∙ e))
 
 -- ---- the sessions of the opening sender
 

@@ -1,13 +1,11 @@
 -- Set-up as the code has it: what it says, the sender that it opens, and what is promised of it.
-use Rattle.std.specs.Prelude.{◌≡◌, Bool, true, false, List, [], ◌∷◌, map, ℕ, eqb, ltb, leb, get_or, take, replicate}
+use Rattle.std.specs.Prelude.{◌≡◌, Bool, true, false, List, [], ◌∷◌, map, ℕ, ltb, leb, get_or, take, replicate}
 use Rattle.std.specs.Prelude.{Option, None, Some, Result, Ok, Err, IfOk}
 use Rattle.sizes.specs.declared.refusal.Refusal.{Refusal}
 use Rattle.sizes.specs.declared.refusal.Refusal.TheVariants as Because
 use Rattle.sizes.specs.Words.{when◌then◌else◌}
 use Rattle.sizes.specs.Limits.{most_sessions}
 use Rattle.sizes.specs.Allocator as Alloc
-use Rattle.sizes.specs.declared.toiallocator.ToiMaxLength.{ToiMaxLength}
-use Rattle.sizes.specs.declared.toiallocator.ToiMaxLength.TheVariants.{ToiMax16, ToiMax32, ToiMax48, ToiMax64}
 use Rattle.lifecycle.specs.Setup.{sound}
 use Rattle.lifecycle.specs.Setup.{Setup as DefSetup}
 use Rattle.lifecycle.specs.FdtCalls.{opening_fdt}
@@ -41,15 +39,6 @@ setup_said z = record {
   carousel = carousel_named z.carousel;
   validity = z.validity;
 }
-
--- a width by its number
-unfoldable pub width_said : ℕ → Option ToiMaxLength
-width_said n =
-    when eqb n 16 then Some ToiMax16
-    else when eqb n 32 then Some ToiMax32
-    else when eqb n 48 then Some ToiMax48
-    else when eqb n 64 then Some ToiMax64
-    else None
 
 -- ---- the sender that it opens
 

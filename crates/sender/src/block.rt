@@ -25,7 +25,7 @@ pub fn no_open() -> Open
 }
 
 // How many symbols a block has.
-#[tactic(auto, unfolding(sizes::specs::Partition::symbols_in))]
+#[tactic(auto, using(sizes::proofs::Lengths::in_large, sizes::proofs::Lengths::in_small))]
 pub fn nb_source_symbols(p: Partition, k: Sbn) -> u64
     ensures { result ≡ symbols_in p k }
 {

@@ -3,24 +3,19 @@ ghost use Rattle.std.specs.Prelude.{◌≡◌, ◌<◌, ◌≤◌};
 ghost use Rattle.sizes.specs.Limits.{most_sessions, largest_fdt_id};
 ghost use Rattle.sizes.specs.Allocator.{bits};
 ghost use Rattle.lifecycle.specs.Setup.{sound};
-ghost use Rattle.sender.specs.SetupCalls.{setup_said, width_said, is_interval, interval_in, settings_of, priority_at, opening_sender, Opens};
+ghost use Rattle.sender.specs.SetupCalls.{setup_said, is_interval, interval_in, settings_of, priority_at, opening_sender, Opens};
 
 use crate::fdtsession::FdtSession;
 use crate::sender::Sender;
 use crate::sendersession::SenderSession;
 use lifecycle::fdt::{Fdt, Settings, are_sound_sizes, is_within};
 use lifecycle::filedesc::Carousel;
-use sizes::limits::{LARGEST_FDT_ID, LARGEST_WINDOW, LONGEST_STORE, MOST_SESSIONS};
+use sizes::limits::{
+    LARGEST_NAMED_COUNT, LARGEST_NAMED_ID, LARGEST_NAMED_WINDOW, LONGEST_STORE, MOST_SESSIONS,
+};
 use sizes::partition::Sizes;
 use sizes::refusal::Refusal;
 use sizes::toiallocator::{ToiAllocator, ToiMaxLength};
-
-// The limits of numbers that a set-up names in 64 bits.
-const LARGEST_NAMED_COUNT: u64 = MOST_SESSIONS as u64;
-
-const LARGEST_NAMED_WINDOW: u64 = LARGEST_WINDOW as u64;
-
-const LARGEST_NAMED_ID: u64 = LARGEST_FDT_ID as u64;
 
 // What is named once. Priorities are those of the first `count` sessions.
 #[derive(Clone, Copy)]
@@ -38,16 +33,18 @@ pub struct Setup {
     pub fdt_store: u64,
 }
 
-// A width of object numbers, if it is one of the four.
-fn width_of(n: u64) -> Option<ToiMaxLength>
-    ensures { result ≡ width_said n }
-{
-    match n {
-        16 => Some(ToiMaxLength::ToiMax16),
-        32 => Some(ToiMaxLength::ToiMax32),
-        48 => Some(ToiMaxLength::ToiMax48),
-        64 => Some(ToiMaxLength::ToiMax64),
-        _ => None,
+impl Setup {
+    // The priority of session i; zero past the sessions in use.
+    #[tactic(auto, unfolding(crate::specs::SetupCalls::priority_at))]
+    fn priority(&self, i: usize) -> u32
+        requires { i < most_sessions }
+        ensures { result ≡ priority_at self.now.priorities self.now.count i }
+    {
+        if (i as u64) < self.count {
+            self.priorities[i]
+        } else {
+            0
+        }
     }
 }
 
@@ -60,7 +57,7 @@ fn is_sound(z: Setup) -> bool
         && are_sound_sizes(z.sizes)
         && z.object_store <= LONGEST_STORE
         && z.fdt_store <= LONGEST_STORE
-        && width_of(z.width).is_some()
+        && ToiMaxLength::try_from(z.width).is_ok()
         && z.first_fdt_id <= LARGEST_NAMED_ID
 }
 
@@ -97,31 +94,21 @@ fn settings(z: &Setup) -> Settings
     }
 }
 
-// The priority of session i; zero past the sessions in use.
-fn priority_of(priorities: [u32; MOST_SESSIONS], n: u64, i: usize) -> u32
-    requires { i < most_sessions }
-    ensures { result ≡ priority_at priorities n i }
-{
-    if (i as u64) < n { priorities[i] } else { 0 }
-}
-
 // The sender before the first call: nothing is held, and every session is idle.
 fn open(z: &Setup, w: ToiMaxLength) -> Sender
     requires { (z.now.width ≡ bits w) × (z.now.first_fdt_id ≤ largest_fdt_id) }
     ensures { result ≡ opening_sender z.now }
 {
     let tois = ToiAllocator::new(w, z.first_toi);
-    let p = z.priorities;
-    let n = z.count;
     Sender {
         fdt: Fdt::new(settings(z), tois, z.first_fdt_id as u32),
         window: z.window as usize,
-        count: n as usize,
+        count: z.count as usize,
         sessions: [
-            SenderSession::idle(priority_of(p, n, 0)),
-            SenderSession::idle(priority_of(p, n, 1)),
-            SenderSession::idle(priority_of(p, n, 2)),
-            SenderSession::idle(priority_of(p, n, 3)),
+            SenderSession::idle(z.priority(0)),
+            SenderSession::idle(z.priority(1)),
+            SenderSession::idle(z.priority(2)),
+            SenderSession::idle(z.priority(3)),
         ],
         fdt_session: FdtSession::idle(),
     }
@@ -131,7 +118,7 @@ fn open(z: &Setup, w: ToiMaxLength) -> Sender
 pub fn set_up(z: Setup) -> Result<Sender, Refusal>
     ensures { Opens z result }
 {
-    let w = width_of(z.width).ok_or(Refusal::SetUp)?;
+    let w = ToiMaxLength::try_from(z.width)?;
     if !is_sound(z) {
         return Err(Refusal::SetUp);
     }

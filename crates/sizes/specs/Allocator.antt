@@ -1,6 +1,6 @@
 -- The allocator of object numbers: 64 entries, each a number that is held by a loose reservation or by an object.
-use Rattle.std.specs.Prelude.{◌≡◌, ℕ, ◌+◌, ◌-◌, ◌≤◌, Bool, true, false, not, ◌&&◌, List, [], ◌∷◌, ◌++◌, map, length, take, replicate, ◌==◌, nat_lt, slice_index_or, slice_set}
-use Rattle.std.specs.Prelude.{Option, None, Some, Result, Ok, Err}
+use Rattle.std.specs.Prelude.{◌≡◌, ℕ, ◌+◌, ◌-◌, ◌≤◌, Bool, true, false, not, ◌&&◌, eqb, List, [], ◌∷◌, ◌++◌, map, length, take, replicate, ◌==◌, nat_lt, slice_index_or, slice_set}
+use Rattle.std.specs.Prelude.{Option, None, Some, Result, Ok, Err, ok_or}
 use Rattle.sizes.specs.Words.{when◌then◌else◌, maybe, has, place, shut, collect, times, Each}
 use Rattle.sizes.specs.Limits.{toi_entries}
 use Rattle.sizes.specs.declared.refusal.Refusal.{Refusal}
@@ -21,6 +21,19 @@ bits ToiMax64 = 64
 -- a width that numbers may have
 abbrev pub Width : ℕ → Type 0
 Width n = (w : ToiMaxLength) × (n ≡ bits w)
+
+-- a width by its number
+unfoldable pub width_said : ℕ → Option ToiMaxLength
+width_said n =
+    when eqb n 16 then Some ToiMax16
+    else when eqb n 32 then Some ToiMax32
+    else when eqb n 48 then Some ToiMax48
+    else when eqb n 64 then Some ToiMax64
+    else None
+
+-- what a number that is named as a width becomes: the width with so many bits; refusal 1 where there is none
+abbrev pub width_told : ℕ → Result ToiMaxLength Refusal
+width_told n = ok_or (width_said n) Because.SetUp
 
 -- what a call says: a number, that it was done, or why it is refused
 pub data Said : Type 0 where

@@ -5,7 +5,7 @@ ghost use Rattle.sizes.specs.Limits.{toi_entries};
 ghost use Rattle.sizes.specs.Toi.{skip_zero, next_toi};
 ghost use Rattle.sizes.specs.Toi.{after as toi_after};
 ghost use Rattle.sizes.specs.Allocator.{loose as allocator_loose};
-ghost use Rattle.sizes.specs.Allocator.{bits, Width, held, noted, entry_is, Searchable, noting, claimed_of, dropped_of, ValidAllocator, Opened, Gives, Becomes};
+ghost use Rattle.sizes.specs.Allocator.{bits, width_told, Width, held, noted, entry_is, Searchable, noting, claimed_of, dropped_of, ValidAllocator, Opened, Gives, Becomes};
 
 use crate::gap::close_gap;
 use crate::limits::TOI_ENTRIES;
@@ -18,6 +18,24 @@ pub enum ToiMaxLength {
     ToiMax32 = 32,
     ToiMax48 = 48,
     ToiMax64 = 64,
+}
+
+impl TryFrom<u64> for ToiMaxLength {
+    type Error = Refusal;
+
+    ghost try_from_gives = { λ n r. r ≡ width_told n };
+
+    // The width of so many bits; no other number is one.
+    #[tactic(auto, unfolding(crate::specs::Allocator::width_said))]
+    fn try_from(n: u64) -> Result<Self, Refusal> {
+        match n {
+            16 => Ok(ToiMaxLength::ToiMax16),
+            32 => Ok(ToiMaxLength::ToiMax32),
+            48 => Ok(ToiMaxLength::ToiMax48),
+            64 => Ok(ToiMaxLength::ToiMax64),
+            _ => Err(Refusal::SetUp),
+        }
+    }
 }
 
 // A number that is held: by a loose reservation, or by an object.

@@ -1,15 +1,16 @@
-use Rattle.std.proofs.Common.{◌≡◌, ◌&&◌, leb, length, is_some, sym, ◌∙◌, ap, refl, rules}
+use Rattle.std.proofs.Common.{◌≡◌, ◌&&◌, leb, length, is_ok, sym, ◌∙◌, ap, refl, rules}
 use Rattle.sizes.specs.Words.{has, within}
 use Rattle.sizes.specs.Limits.{most_sessions, largest_window, longest_store}
+use Rattle.sizes.proofs.Widths.{width_given}
 use Rattle.lifecycle.specs.Setup.{sound_sizes, widths}
 use Rattle.lifecycle.proofs.SetupLaws.{both, not_first}
 use Rattle.sender.specs.SetupCalls.{priorities_said}
-use Rattle.sender.proofs.SetupCallsLaws.{few_named, width_given, sound_by}
+use Rattle.sender.proofs.SetupCallsLaws.{few_named, sound_by}
 use Rattle.sender.proofs.setup.is_sound.Goals as goal
 use Rattle.sender.proofs.setup.is_sound.Goals.{then-is_within, else-is_within, then-is_within-2, else-is_within-2, then-are_sound_sizes, else-are_sound_sizes, then-z-le-LONGEST_STORE, else-z-le-LONGEST_STORE, then-z-le-LONGEST_STORE-2, else-z-le-LONGEST_STORE-2}
 
-pub returns-then-is_some : goal.returns-then-is_some
-returns-then-is_some c =
+pub returns-then-is_ok : goal.returns-then-is_ok
+returns-then-is_ok c =
     let z = c.args.z in
     let o = c.well_formed in
     let t0 = within 1 most_sessions (length (priorities_said z)) in
@@ -29,13 +30,13 @@ returns-then-is_some c =
     elim c.if-z-le-LONGEST_STORE.branch [ then-z-le-LONGEST_STORE w ↦ both e3 w.if-z-le-LONGEST_STORE.true w.value-is | else-z-le-LONGEST_STORE w ↦ w.value-is ∙ not_first _ e3 w.if-z-le-LONGEST_STORE.false ] in
     let e5 : c.if-z-le-LONGEST_STORE-2.value ≡ t5 =
     elim c.if-z-le-LONGEST_STORE-2.branch [
-      | then-z-le-LONGEST_STORE-2 w ↦ w.value-is ∙ both e4 w.if-z-le-LONGEST_STORE-2.true (w.is_some.ensures ∙ ap is_some w.width_of.ensures ∙ width_given z.width)
+      | then-z-le-LONGEST_STORE-2 w ↦ w.value-is ∙ both e4 w.if-z-le-LONGEST_STORE-2.true (w.is_ok.ensures.value ∙ ap is_ok w.try_from.ensures ∙ width_given z.width)
       | else-z-le-LONGEST_STORE-2 w ↦ w.value-is ∙ not_first _ e4 w.if-z-le-LONGEST_STORE-2.false
     ] in
-    both e5 c.if-is_some.true refl ∙ sym (sound_by z (λ i. search rules))
+    both e5 c.if-is_ok.true refl ∙ sym (sound_by z (λ i. search rules))
 
-pub returns-else-is_some : goal.returns-else-is_some
-returns-else-is_some c =
+pub returns-else-is_ok : goal.returns-else-is_ok
+returns-else-is_ok c =
     let z = c.args.z in
     let o = c.well_formed in
     let t0 = within 1 most_sessions (length (priorities_said z)) in
@@ -55,7 +56,7 @@ returns-else-is_some c =
     elim c.if-z-le-LONGEST_STORE.branch [ then-z-le-LONGEST_STORE w ↦ both e3 w.if-z-le-LONGEST_STORE.true w.value-is | else-z-le-LONGEST_STORE w ↦ w.value-is ∙ not_first _ e3 w.if-z-le-LONGEST_STORE.false ] in
     let e5 : c.if-z-le-LONGEST_STORE-2.value ≡ t5 =
     elim c.if-z-le-LONGEST_STORE-2.branch [
-      | then-z-le-LONGEST_STORE-2 w ↦ w.value-is ∙ both e4 w.if-z-le-LONGEST_STORE-2.true (w.is_some.ensures ∙ ap is_some w.width_of.ensures ∙ width_given z.width)
+      | then-z-le-LONGEST_STORE-2 w ↦ w.value-is ∙ both e4 w.if-z-le-LONGEST_STORE-2.true (w.is_ok.ensures.value ∙ ap is_ok w.try_from.ensures ∙ width_given z.width)
       | else-z-le-LONGEST_STORE-2 w ↦ w.value-is ∙ not_first _ e4 w.if-z-le-LONGEST_STORE-2.false
     ] in
-    not_first _ e5 c.if-is_some.false ∙ sym (sound_by z (λ i. search rules))
+    not_first _ e5 c.if-is_ok.false ∙ sym (sound_by z (λ i. search rules))

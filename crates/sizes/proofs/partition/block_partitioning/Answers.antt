@@ -1,5 +1,5 @@
 -- `sizes::partition::block_partitioning` meets its contract: each return by the tests that led there.
-use Rattle.std.proofs.Common.{◌≡◌, ◌<◌, ℕ, div-mul-le_self, arith, ne_eqb}
+use Rattle.std.proofs.Common.{◌≡◌, ◌<◌, ℕ, arith, ne_eqb}
 use Rattle.sizes.specs.Words.{ceil}
 use Rattle.sizes.proofs.Arithmetic.{ceil_some}
 use Rattle.sizes.specs.Partition.{symbols_of, split, partition_of}

@@ -1,4 +1,4 @@
-use Rattle.std.proofs.Common.{◌/◌, ◌<◌, sym, div-add-mod', le-mul_of_pos_right, arith, rules}
+use Rattle.std.proofs.Common.{sym, rules}
 use native.Mathlib.Nat.{div-zero}
 use Rattle.sizes.specs.Words.{ceil}
 use Rattle.sizes.proofs.Arithmetic.{ceil_exact, ceil_more}
