@@ -81,16 +81,18 @@ fn interval_in(c: Carousel) -> u64
 }
 
 // What the list is told of it.
-fn settings(z: &Setup) -> Settings
-    ensures { result ≡ settings_of z.now }
-{
-    Settings {
-        object_store: z.object_store,
-        fdt_store: z.fdt_store,
-        sizes: z.sizes,
-        validity: z.validity,
-        from_start: is_interval(z.carousel),
-        interval: interval_in(z.carousel),
+impl From<Setup> for Settings {
+    ghost from_gives = { λ z r. r ≡ settings_of z };
+
+    fn from(z: Setup) -> Settings {
+        Settings {
+            object_store: z.object_store,
+            fdt_store: z.fdt_store,
+            sizes: z.sizes,
+            validity: z.validity,
+            from_start: is_interval(z.carousel),
+            interval: interval_in(z.carousel),
+        }
     }
 }
 
@@ -101,7 +103,7 @@ fn open(z: &Setup, w: ToiMaxLength) -> Sender
 {
     let tois = ToiAllocator::new(w, z.first_toi);
     Sender {
-        fdt: Fdt::new(settings(z), tois, z.first_fdt_id as u32),
+        fdt: Fdt::new(Settings::from(*z), tois, z.first_fdt_id as u32),
         window: z.window as usize,
         count: z.count as usize,
         sessions: [
