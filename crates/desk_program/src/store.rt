@@ -32,7 +32,7 @@ fn store_byte(is_fdt: bool, i: usize) -> u8
 }
 
 // Fills a store.
-#[tactic(auto, using(crate::proofs::StoreLaws::one_more), unfolding(crate::specs::Stores::Filled))]
+#[tactic(auto, unfolding(crate::specs::Stores::Filled))]
 pub(crate) fn fill(store: &mut [u8], is_fdt: bool)
     requires { length store.old ≤ 131072 }
     ensures { Filled is_fdt store.new }
