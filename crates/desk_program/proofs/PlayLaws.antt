@@ -13,6 +13,7 @@ use Rattle.sender.specs.declared.sender.Sender.{Sender}
 use Rattle.sender.specs.declared.setup.Setup.{Setup}
 use Rattle.wire.specs.declared.record.Record.{Record}
 use Rattle.drain_program.specs.declared.drain.Transfer.{Transfer}
+use Rattle.record_program.specs.declared.WriteWords.{WriteWords}
 use Rattle.desk_program.specs.Plays.{alone, SetUpAnswers, Stays}
 use Rattle.desk_program.specs.declared.command.Command.{Command}
 use Rattle.desk_program.specs.declared.command.Command.TheVariants as CommandV
@@ -28,7 +29,7 @@ refused_why false s why e = cc
 pub not_alone : (c : Command) → (c ≡ CommandV.Skip → ⊥) → ((l e b : ℕ) → c ≡ CommandV.Partition l e b → ⊥)
     → ((l e b : ℕ) (k : Sbn) → c ≡ CommandV.BlockLength l e b k → ⊥)
     → ((p : Partition) (l e : ℕ) (k : Sbn) → c ≡ CommandV.RawLength p l e k → ⊥)
-    → ((t : Transfer) → c ≡ CommandV.Drain t → ⊥) → ((r : Record) (room : ℕ) → c ≡ CommandV.WriteRecord r room → ⊥)
+    → ((t : Transfer) → c ≡ CommandV.Drain t → ⊥) → ((w : WriteWords) → c ≡ CommandV.WriteRecord w → ⊥)
     → ((a : Result Record Refusal) → c ≡ CommandV.ReadRecord a → ⊥) → alone c ≡ None
 not_alone CommandV.Skip h1 h2 h3 h4 h5 h6 h7 = absurd (h1 refl)
 not_alone CommandV.Wrong h1 h2 h3 h4 h5 h6 h7 = refl
@@ -50,7 +51,7 @@ not_alone (CommandV.Partition l e b) h1 h2 h3 h4 h5 h6 h7 = absurd (h2 l e b ref
 not_alone (CommandV.BlockLength l e b k) h1 h2 h3 h4 h5 h6 h7 = absurd (h3 l e b k refl)
 not_alone (CommandV.RawLength p l e k) h1 h2 h3 h4 h5 h6 h7 = absurd (h4 p l e k refl)
 not_alone (CommandV.Drain t) h1 h2 h3 h4 h5 h6 h7 = absurd (h5 t refl)
-not_alone (CommandV.WriteRecord r room) h1 h2 h3 h4 h5 h6 h7 = absurd (h6 r room refl)
+not_alone (CommandV.WriteRecord w) h1 h2 h3 h4 h5 h6 h7 = absurd (h6 w refl)
 not_alone (CommandV.ReadRecord a) h1 h2 h3 h4 h5 h6 h7 = absurd (h7 a refl)
 
 pub stays_none : {c : Command} {d : Desk} {y : Reply} {r : Desk} → alone c ≡ None → Stays c d y r

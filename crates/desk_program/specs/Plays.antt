@@ -81,7 +81,7 @@ call_of (CommandV.Partition l e b) = None
 call_of (CommandV.BlockLength l e b k) = None
 call_of (CommandV.RawLength p l e k) = None
 call_of (CommandV.Drain t) = None
-call_of (CommandV.WriteRecord r room) = None
+call_of (CommandV.WriteRecord w) = None
 call_of (CommandV.ReadRecord a) = None
 
 -- of a command that needs the sender
@@ -145,7 +145,7 @@ alone (CommandV.Partition l e b) = Some (ReplyV.Cut (partition_of b l e))
 alone (CommandV.BlockLength l e b k) = Some (length_shown (block_length (partition_of b l e) l e k))
 alone (CommandV.RawLength p l e k) = Some (length_shown (block_length p l e k))
 alone (CommandV.Drain t) = Some (ReplyV.Drained t)
-alone (CommandV.WriteRecord r room) = Some (record_shown r room)
+alone (CommandV.WriteRecord w) = Some (record_shown w.record w.room)
 alone (CommandV.ReadRecord a) = Some (reading_shown a)
 
 -- of such a command: that reply, and nothing changes

@@ -2,6 +2,7 @@
 use drain_program::Transfer;
 use lifecycle::filedesc::{Carousel, Target, Time};
 use lifecycle::parts::Part;
+use record_program::WriteWords;
 use sender::sender::Object;
 use sender::setup::Setup;
 use sizes::limits::MOST_SESSIONS;
@@ -67,11 +68,7 @@ pub enum Command {
         sbn: Sbn,
     },
     Drain(Transfer),
-    // a record, and the room of the buffer that it is written into
-    WriteRecord {
-        record: Record,
-        room: u8,
-    },
+    WriteRecord(WriteWords),
     // the record that stands in the bytes of the line, if any does
     ReadRecord(Result<Record, Refusal>),
 }
@@ -201,21 +198,14 @@ fn next_maybe(words: &mut Words) -> Option<Option<u64>> {
     (w == b"-".as_slice()).then_some(None)
 }
 
-// A time that may be missing.
-fn time_of(at: Option<u64>) -> Time {
-    match at {
-        Some(n) => Time::at(n),
-        None => Time::none(),
-    }
+// A time, or `-` for none.
+fn next_time(words: &mut Words) -> Option<Time> {
+    Some(next_maybe(words)?.map_or(Time::none(), Time::at))
 }
 
 // FDT CLOSE FDT_ID TOI BLOCK SYMBOL LENGTH TRANSFER_LENGTH COUNT ROOM
 fn read_write(words: Words) -> Option<Command> {
-    let w = record_program::write_words(words)?;
-    Some(Command::WriteRecord {
-        record: w.record,
-        room: w.room,
-    })
+    Some(Command::WriteRecord(record_program::write_words(words)?))
 }
 
 // HEX
@@ -226,24 +216,36 @@ fn read_read(words: Words) -> Option<Command> {
 // TOI CLOCK, where the clock may be none.
 fn read_trigger(mut words: Words) -> Option<Command> {
     let toi = next_number(&mut words)?;
-    let start = time_of(next_maybe(&mut words)?);
+    let start = next_time(&mut words)?;
     words.is_over().then_some(Command::Trigger { toi, start })
 }
+
+// The most sessions, as a line counts them.
+const MOST: u64 = MOST_SESSIONS as u64;
 
 // The priorities of a set-up, as many as it names sessions. Some(None) where there are none, more than a sender has, or one
 // is above 32 bits; None where a word is no number.
 fn next_priorities(words: &mut Words, count: u64) -> Option<Option<[u32; MOST_SESSIONS]>> {
-    let mut p = [0u32; MOST_SESSIONS];
-    let mut fits = 0 < count && count <= MOST_SESSIONS as u64;
-    for i in 0..count {
-        let n = next_number(words)?;
-        match u32::try_from(n) {
-            Ok(priority) if i < MOST_SESSIONS as u64 => p[i as usize] = priority,
-            Ok(_) => {}
-            Err(_) => fits = false,
-        }
+    let mut named = [0u64; MOST_SESSIONS];
+    for (n, _) in named.iter_mut().zip(0..count) {
+        *n = next_number(words)?;
     }
-    Some(fits.then_some(p))
+    for _ in MOST..count {
+        next_number(words)?;
+    }
+    if count == 0 || MOST < count {
+        return Some(None);
+    }
+    Some(in_32_bits(named))
+}
+
+// The same numbers, where none is above 32 bits.
+fn in_32_bits(wide: [u64; MOST_SESSIONS]) -> Option<[u32; MOST_SESSIONS]> {
+    let mut all = [0u32; MOST_SESSIONS];
+    for (n, from) in all.iter_mut().zip(wide) {
+        *n = u32::try_from(from).ok()?;
+    }
+    Some(all)
 }
 
 // MODE GAP
@@ -331,7 +333,7 @@ fn read_add(mut words: Words) -> Option<Command> {
     let most = next_u32(&mut words)?;
     let carousel = next_repeats(&mut words)?;
     let target = next_pacing(&mut words)?;
-    let start = time_of(next_maybe(&mut words)?);
+    let start = next_time(&mut words)?;
     let stop_at_once = next_flag(&mut words)?;
     let named = next_maybe(&mut words)?;
     if !words.is_over() {

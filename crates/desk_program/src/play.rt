@@ -98,7 +98,7 @@ impl Desk {
                 Reply::Number(sizes::partition::block_length(p, l, e, sbn))
             }
             Command::Drain(t) => Reply::Drained(t),
-            Command::WriteRecord { record, room } => record_reply(record, room),
+            Command::WriteRecord(w) => record_reply(w.record, w.room),
             Command::ReadRecord(found) => Reply::from(found),
             _ => self.call(c),
         }

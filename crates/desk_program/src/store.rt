@@ -32,12 +32,13 @@ fn store_byte(is_fdt: bool, i: usize) -> u8
 }
 
 // Fills a store.
+#[tactic(auto, unfolding(crate::specs::Stores::Filled))]
 pub(crate) fn fill(store: &mut [u8], is_fdt: bool)
     requires { length store.old ≤ 131072 }
     ensures { Filled is_fdt store.new }
 {
-    for i in 0..store.len() {
-        store[i] = store_byte(is_fdt, i);
+    for (i, b) in store.iter_mut().enumerate() {
+        *b = store_byte(is_fdt, i);
     }
 }
 

@@ -4,16 +4,17 @@ use mathlib.Core.Bool.{Bool, true, false, ◌&&◌}
 use mathlib.Core.List.{List}
 use Prim.Native.Nat.{ℕ, ◌^◌, ◌<◌, ◌≤◌}
 use borrow.Author.Tests.{leb-true, ltb-true}
-use lib.Dec.{leb, ltb}
+use lib.Dec.{eqb, leb, ltb}
 use lib.ListN.{length, get_or}
-use Rattle.sizes.specs.Words.{when◌then◌else◌}
+use Rattle.sizes.specs.Words.{when◌then◌else◌, one_if}
 use Rattle.text.proofs.Lists.{both}
 use Rattle.std.specs.Prelude.{Result, Ok, Err}
 use Rattle.std.specs.Result.{is_ok}
 use Rattle.sizes.specs.declared.refusal.Refusal.{Refusal}
 use Rattle.sizes.specs.declared.refusal.Refusal.TheVariants as Because
-use Rattle.wire.specs.Record.{record_size, good, writable, done, refused, writing_said, write_answer, RecordWrites}
+use Rattle.wire.specs.Record.{record_size, good, writable, done, refused, with_values, writing_said, write_answer, RecordWrites}
 use Rattle.wire.specs.declared.record.Record.{Record}
+use Rattle.record_program.specs.Fields.{numbers_of}
 use Rattle.record_program.specs.Numbers.{fit, room_for}
 
 -- all but the buffer
@@ -57,3 +58,12 @@ told (Err why) false h = refl
 pub room_told : {out after : List ℕ} {room : ℕ} {r : Record} {a : Result (Unit {0}) Refusal} → RecordWrites out r a after → length out ≡ room → is_ok a ≡ room_for room r
 unfolding write_answer writable room_for
 room_told {out} {after} {room} {r} {a} w e = told a (writable out r) w.answer ∙ ap (λ n. leb record_size n && good r) e
+
+flag_back : (b : Bool) → eqb (one_if b) 1 ≡ b
+flag_back true = refl
+flag_back false = refl
+
+-- the numbers that are shown of a record are those that it is written from
+pub shown_back : (r : Record) → with_values (numbers_of r) ≡ r
+unfolding with_values
+shown_back r = rw (flag_back r.is_fdt, flag_back r.close)

@@ -61,8 +61,8 @@ pub fn read_hex(w: &[u8], out: &mut [u8]) -> Option<usize>
     if out.len() < n || w.len() % 2 != 0 {
         return None;
     }
-    for i in 0..n {
-        out[i] = pair(w[2 * i], w[2 * i + 1])?;
+    for (i, b) in out[..n].iter_mut().enumerate() {
+        *b = pair(w[2 * i], w[2 * i + 1])?;
     }
     Some(n)
 }

@@ -4,7 +4,7 @@
 mod hex;
 mod numbers;
 
-ghost use Rattle.std.specs.Prelude.{◌≡◌, ◌≤◌, length, replicate};
+ghost use Rattle.std.specs.Prelude.{◌≡◌, ◌≤◌, length, replicate, Some};
 ghost use Rattle.record_program.specs.Numbers.{room_for};
 ghost use Rattle.record_program.specs.Readings.{word_said, word_reading};
 
@@ -86,6 +86,10 @@ pub fn put_written(out: &mut [u8], r: Record, room: u8) -> usize {
 pub struct Fields(pub Record);
 
 impl fmt::Display for Fields {
+    ghost use Rattle.record_program.specs.Fields.{fields_text};
+
+    ghost output = { λ f. Some (fields_text f.0) };
+
     fn fmt<W: fmt::Write>(&self, f: &mut fmt::Formatter<W>) -> fmt::Result {
         let r = self.0;
         write!(

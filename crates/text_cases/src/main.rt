@@ -31,16 +31,9 @@ fn answer<W: Write>(out: &mut W, line: &[u8]) {
 
 // Writes what a word is as a number.
 fn put<W: Write>(out: &mut W, word: &[u8]) {
-    match text::number_of(word) {
-        Ok(n) => put_decimal(out, n),
-        Err(NumberError::Past) => text::write_all(out, b"past"),
-        Err(NumberError::Unreadable) => text::write_all(out, b"unreadable"),
+    let _ = match text::number_of(word) {
+        Ok(n) => write!(out, "{n}"),
+        Err(NumberError::Past) => write!(out, "past"),
+        Err(NumberError::Unreadable) => write!(out, "unreadable"),
     };
-}
-
-// Writes a number in decimal.
-fn put_decimal<W: Write>(out: &mut W, n: u64) -> bool {
-    let mut digits = [0u8; 20];
-    let end = text::put_number(&mut digits, 0, n);
-    text::write_all(out, text::part(&digits, 0, end))
 }

@@ -1,6 +1,5 @@
 -- `record_program::hex::put_hex` meets its contract.
 use native.Mathlib.Omega.{arith}
-use lib.Seq.{take_all}
 use Rattle.text.proofs.Appends.{nothing_more}
 use Rattle.record_program.specs.Hex.{hex_of}
 use Rattle.record_program.proofs.HexLaws.{hex_more}
