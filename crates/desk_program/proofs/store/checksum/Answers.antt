@@ -1,11 +1,8 @@
 -- `desk_program::store::checksum` meets its contract.
-use mathlib.Core.Path.{refl, sym, ◌∙◌}
+use mathlib.Core.Path.{sym, ◌∙◌}
 use borrow.Author.Rules.{rules}
 use Rattle.desk_program.proofs.StoreLaws.{sum_step, sum_end}
 use Rattle.desk_program.proofs.store.checksum.Goals as goal
-
-pub loop-b-init : goal.loop-b-init
-loop-b-init c = (search rules, refl)
 
 pub loop-b-preserved : goal.loop-b-preserved
 loop-b-preserved c =
