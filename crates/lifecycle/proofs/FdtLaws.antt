@@ -19,7 +19,7 @@ use Rattle.sizes.specs.declared.partition.Sizes.{Sizes}
 use Rattle.sizes.specs.declared.toiallocator.ToiAllocator.{ToiAllocator}
 use Rattle.sizes.proofs.Lists.{found_first, at_take, at_get}
 use Rattle.sizes.proofs.Arrays.{each_get}
-use Rattle.sizes.proofs.Tables.{one_true, one_most, inside}
+use Rattle.sizes.proofs.Tables.{one_true, inside}
 use Rattle.sizes.proofs.AllocatorViews.{allocated_cases}
 use Rattle.lifecycle.proofs.FdtFacts as Facts
 use Rattle.lifecycle.specs.Lifecycle.{expired, may_start}
@@ -40,12 +40,6 @@ each_in P (k ∷ l) h = (h k (let r = ap one_if (eq-eqb k k refl) in omega arith
 -- ---- what a valid list tells
 
 module _ (f : Fdt) (v : ValidFdt f) where
-  -- as many hold it as it says, so at most the list and a session
-  pub holders_few : (k : ℕ) → (slot_at f.slots k).holders ≤ 2
-  holders_few k =
-      let a = one_most (slot_at f.slots k).listed in let b = one_most (sends (slot_at f.slots k)) in
-      let r = (v.tidy k).count in omega arith
-
   -- one that a session sends has a holder
   pub sends_held : (k : ℕ) → sends (slot_at f.slots k) ≡ true → 0 < (slot_at f.slots k).holders
   sends_held k e = let a = (v.tidy k).count in let b = ap one_if e in omega arith

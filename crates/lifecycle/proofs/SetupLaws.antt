@@ -30,11 +30,6 @@ sizes_told z h =
       block = in_range 1 largest_block z.b (and_right (within 1 largest_symbol z.e) (within 1 largest_block z.b) h);
     }
 
--- E and B in their ranges
-pub sizes_sound : (z : Sizes) → within 1 largest_symbol z.e ≡ true → within 1 largest_block z.b ≡ true → sound_sizes z ≡ true
-unfolding sound_sizes
-sizes_sound z e b = λ i. e i && b i
-
 -- ---- every number in its range
 
 -- what an accepted set-up passes, but for its priorities and its first FDT id
@@ -79,11 +74,6 @@ module _ (s : Setup) where
       go : Tested (sound s) → sound s ≡ false
       go (pass k) = absurd (false≢true (sym q ∙ f k))
       go (fail k) = k
-
-  -- where all pass, and the priorities are in their range, it goes by the first FDT id
-  pub by_id : Passed s → all (λ p. leb p largest_priority) s.priorities ≡ true → sound s ≡ leb s.first_id largest_fdt_id
-  unfolding sound
-  by_id q b = λ i. q.sessions i && b i && q.window i && q.sizes i && q.object_store i && q.fdt_store i && q.width i && leb s.first_id largest_fdt_id
 
   passed_id : sound s ≡ true → leb s.first_id largest_fdt_id ≡ true
   unfolding sound

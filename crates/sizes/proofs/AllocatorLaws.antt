@@ -19,16 +19,6 @@ use Rattle.sizes.proofs.Lists.{Hit, Sought, hit, miss, sought, at_take, at_get, 
 use Rattle.sizes.proofs.Arrays.{getD_shut, take_shut, length_shut}
 use Rattle.sizes.proofs.ToiLaws.{first_range, next_range, next_free, next_first}
 
--- a width is 64 where it is none of the others
-pub width_64 : (n : ℕ) → Width n → (n ≡ 16 → ⊥) → (n ≡ 32 → ⊥) → (n ≡ 48 → ⊥) → n ≡ 64
-width_64 n u a b c = go u.0 u.1
-  where
-    go : (w : ToiMaxLength) → n ≡ bits w → n ≡ 64
-    go ToiMax16 e = absurd (a e)
-    go ToiMax32 e = absurd (b e)
-    go ToiMax48 e = absurd (c e)
-    go ToiMax64 e = e
-
 pub width_16 : (n : ℕ) → Width n → 16 ≤ n
 width_16 n u = subst (λ k. 16 ≤ k) (sym u.1) (go u.0)
   where

@@ -1,38 +1,9 @@
--- Laws of arrays with a length: a search over the first n elements, a gap that is closed, a change of each element.
-use Rattle.std.proofs.Common.{◌≡◌, ℕ, zero, suc, ◌+◌, ◌-◌, ◌<◌, ◌≤◌, Bool, true, false, cond, ◌&&◌, ◌||◌, List, [], ◌∷◌, ◌++◌, map, length, get_or, take, drop, set, sym, refl, ap, ◌∙◌, add-one, arith, length-take-le, drop-cons, get_or-take}
+-- Laws of arrays with a length: the library's searches in the words of the definitions, a gap that is closed, a change of each element.
+use Rattle.std.proofs.Common.{◌≡◌, ℕ, zero, suc, ◌+◌, ◌-◌, ◌<◌, ◌≤◌, Bool, true, false, cond, ◌&&◌, ◌||◌, List, [], ◌∷◌, ◌++◌, map, length, get_or, take, drop, set, sym, refl, ap, ◌∙◌, add-one, arith}
 use Rattle.std.specs.Prelude.{Option, None, Some}
 use Rattle.std.specs.List.{copy_within, list_all, list_any, position, position_from}
 use Rattle.std.proofs.lemmas.Iterator.Adapters.{position_from-zero}
 use Rattle.sizes.specs.Words.{when◌then◌else◌, over, any, all, cut, place, shut, Each}
-
--- a search from the front over the first n elements: what is left to do after i turns comes to the same
-module _ {A : Type 0} (ok : A → Bool) (n : ℕ) (l : List A) (long : n ≤ length l) (i : ℕ) where
-  inside : i < n → i < length (take n l)
-  inside h = rw (length-take-le n l long) h
-
-  next : (z : A) → i < n → drop i (take n l) ≡ get_or l i z ∷ drop (i + 1) (take n l)
-  next z h = drop-cons (take n l) i z (inside h) ∙ rw (get_or-take n l i z h, add-one)
-
-  -- the place that is still to be found, counted from the front
-  abbrev pub ahead : Option ℕ
-  ahead = over (λ k. i + k) (place ok (drop i (take n l)))
-
-  pub place_hit : (z : A) → i < n → ok (get_or l i z) ≡ true → ahead ≡ Some i
-  place_hit z h e = rw (next z h, e) (ap Some (let r : i + 0 ≡ i = omega arith in r))
-
-pub over_over : {A B C : Type 0} (f : B → C) (g : A → B) (h : A → C) → ((a : A) → f (g a) ≡ h a) → (o : Option A) → over f (over g o) ≡ over h o
-over_over f g h e None = refl
-over_over f g h e (Some a) = ap Some (e a)
-
-over_zero : (o : Option ℕ) → over (λ k. 0 + k) o ≡ o
-over_zero None = refl
-over_zero (Some k) = ap Some (let r : 0 + k ≡ k = omega arith in r)
-
-pub place_miss : {A : Type 0} (ok : A → Bool) (n : ℕ) (l : List A) (long : n ≤ length l) (i : ℕ) (z : A) → i < n → ok (get_or l i z) ≡ false
-    → ahead ok n l long i ≡ ahead ok n l long (i + 1)
-place_miss ok n l long i z h e =
-    rw (next ok n l long i z h, e)
-    (over_over (λ k. i + k) suc (λ k. i + 1 + k) (λ k. omega arith) (place ok (drop (i + 1) (take n l))))
 
 -- the library's words for a search come to the same
 pub any_is : {A : Type 0} (ok : A → Bool) (l : List A) → list_any ok l ≡ any ok l
@@ -42,6 +13,14 @@ any_is ok (a ∷ l) = ap (λ b. ok a || b) (any_is ok l)
 pub all_is : {A : Type 0} (ok : A → Bool) (l : List A) → list_all ok l ≡ all ok l
 all_is ok [] = refl
 all_is ok (a ∷ l) = ap (λ b. ok a && b) (all_is ok l)
+
+pub over_over : {A B C : Type 0} (f : B → C) (g : A → B) (h : A → C) → ((a : A) → f (g a) ≡ h a) → (o : Option A) → over f (over g o) ≡ over h o
+over_over f g h e None = refl
+over_over f g h e (Some a) = ap Some (e a)
+
+over_zero : (o : Option ℕ) → over (λ k. 0 + k) o ≡ o
+over_zero None = refl
+over_zero (Some k) = ap Some (let r : 0 + k ≡ k = omega arith in r)
 
 pub position_is : {A : Type 0} (ok : A → Bool) (l : List A) → position ok l ≡ place ok l
 position_is ok l = position_from-zero ok l ∙ from 0 l ∙ over_zero (place ok l)

@@ -85,9 +85,6 @@ both {a} {b} {c} {t} {u} {at} {r} {s} p q =
       rest = q.rest ∙ (rw q.end (later a b r (length u) p.rest));
     }
 
--- a text that does not fit, and one that does
+-- a text that does not fit
 pub left_out : (before text : List ℕ) (at : ℕ) → length before < at + length text → Put before at text before at
 left_out before text at h = record { fits = λ w. absurd (omega arith); past = λ w. (refl, refl) }
-
-pub put_in : {before text after : List ℕ} {at r : ℕ} → at + length text ≤ length before → Appended before at text after r → Put before at text after r
-put_in h p = record { fits = λ w. p; past = λ w. absurd (omega arith) }

@@ -11,7 +11,7 @@ use Rattle.std.proofs.lemmas.Iterator.{YieldsList-from_slice}
 use Rattle.std.proofs.lemmas.Iterator.Search.{all_from_yields_List}
 use Rattle.std.proofs.lemmas.Result.{err_from_is_err_and}
 use Rattle.text.specs.Numbers.{digit, value_from}
-use Rattle.text.proofs.Numbers.{digits_list, digit_at, value_step, value_end, number_empty, number_none, number_past, number_is, width_value, width_error}
+use Rattle.text.proofs.Numbers.{digits_list, value_step, value_end, number_empty, number_none, number_past, number_is, width_value, width_error}
 use Rattle.text.proofs.number.number_of.Goals as goal
 
 pub returns-then-is_empty : goal.returns-then-is_empty
