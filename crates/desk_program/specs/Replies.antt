@@ -24,7 +24,7 @@ reply_said (ReplyV.Sent p) = Some (Def.Answer.output (over packet_said p))
 reply_said (ReplyV.SentFdt taken p) = Some (Def.Answer.fdt_output taken (over packet_said p))
 reply_said (ReplyV.Cut p) = None
 reply_said (ReplyV.Drained t) = None
-reply_said (ReplyV.Written r room) = None
+reply_said (ReplyV.Written w) = None
 reply_said (ReplyV.Fields r) = None
 
 -- the reply says this answer
@@ -41,7 +41,7 @@ length_shown n = ReplyV.Number n
 
 -- the reply to a command that writes a record: the record, if it can be written
 abbrev pub record_shown : Record → ℕ → Reply
-record_shown r room = when room_for room r then ReplyV.Written r room else ReplyV.Refused Because.Record
+record_shown r room = when room_for room r then ReplyV.Written (record { «record» = r; room = room }) else ReplyV.Refused Because.Record
 
 -- the reply to one that reads a record
 abbrev pub reading_shown : Result Record Refusal → Reply

@@ -5,7 +5,7 @@ use lifecycle::parts::Part;
 use record_program::WriteWords;
 use sender::sender::Object;
 use sender::setup::Setup;
-use sizes::limits::MOST_SESSIONS;
+use sizes::limits::{LARGEST_NAMED_COUNT, MOST_SESSIONS};
 use sizes::numbers::Sbn;
 use sizes::partition::{Partition, Sizes};
 use sizes::refusal::Refusal;
@@ -220,9 +220,6 @@ fn read_trigger(mut words: Words) -> Option<Command> {
     words.is_over().then_some(Command::Trigger { toi, start })
 }
 
-// The most sessions, as a line counts them.
-const MOST: u64 = MOST_SESSIONS as u64;
-
 // The priorities of a set-up, as many as it names sessions. Some(None) where there are none, more than a sender has, or one
 // is above 32 bits; None where a word is no number.
 fn next_priorities(words: &mut Words, count: u64) -> Option<Option<[u32; MOST_SESSIONS]>> {
@@ -230,10 +227,10 @@ fn next_priorities(words: &mut Words, count: u64) -> Option<Option<[u32; MOST_SE
     for (n, _) in named.iter_mut().zip(0..count) {
         *n = next_number(words)?;
     }
-    for _ in MOST..count {
+    for _ in LARGEST_NAMED_COUNT..count {
         next_number(words)?;
     }
-    if count == 0 || MOST < count {
+    if count == 0 || LARGEST_NAMED_COUNT < count {
         return Some(None);
     }
     Some(in_32_bits(named))

@@ -6,7 +6,7 @@ ghost use Rattle.desk_program.specs.Replies.{length_shown};
 ghost use Rattle.desk_program.specs.Plays.{Calls, SetsUp, Answers, SetUpAnswers, Stays, Holds};
 
 use crate::command::Command;
-use crate::reply::{Reply, record_reply};
+use crate::reply::Reply;
 use sender::sender::Sender;
 use sender::setup::Setup;
 use sizes::numbers::Sbn;
@@ -98,7 +98,7 @@ impl Desk {
                 Reply::Number(sizes::partition::block_length(p, l, e, sbn))
             }
             Command::Drain(t) => Reply::Drained(t),
-            Command::WriteRecord(w) => record_reply(w.record, w.room),
+            Command::WriteRecord(w) => Reply::from(w),
             Command::ReadRecord(found) => Reply::from(found),
             _ => self.call(c),
         }

@@ -63,6 +63,26 @@ impl fmt::Display for Summed {
     }
 }
 
+// A reply of one word, or of one number.
+#[derive(Clone, Copy)]
+struct Short(Reply);
+
+impl fmt::Display for Short {
+    fn fmt<W: fmt::Write>(&self, f: &mut fmt::Formatter<W>) -> fmt::Result {
+        match self.0 {
+            Reply::Error => write!(f, "error"),
+            Reply::Done => write!(f, "ok"),
+            Reply::Truth(true) => write!(f, "yes"),
+            Reply::Truth(false) => write!(f, "no"),
+            Reply::Number(None) => write!(f, "none"),
+            Reply::Number(Some(n)) => write!(f, "{n}"),
+            Reply::Refused(why) => write!(f, "refused {}", u32::from(why)),
+            Reply::Toi(n) => write!(f, "toi {n}"),
+            _ => Ok(()),
+        }
+    }
+}
+
 // Writes the answer to a line; nothing where it has none.
 pub fn write_reply<W: Write>(to: &mut W, stores: &Stores, reply: Reply) {
     match reply {
@@ -102,12 +122,12 @@ fn put_reply(line: &mut Line, stores: &Stores, reply: Reply) -> fmt::Result {
             let (large, small) = (p.large, p.small);
             write!(line, "{large} {small} {} {}", p.nb_a_large, p.blocks)
         }
-        Reply::Written { record, room } => {
-            line.used = record_program::put_written(&mut line.bytes, record, room).min(512);
+        Reply::Written(w) => {
+            line.used = w.put_written(&mut line.bytes).min(512);
             Ok(())
         }
         Reply::Fields(r) => write!(line, "{}", record_program::Fields(r)),
-        _ => put_short(line, reply),
+        _ => write!(line, "{}", Short(reply)),
     }
 }
 
@@ -119,20 +139,5 @@ fn put_sent(line: &mut Line, stores: &Stores, sent: Option<Packet>) -> fmt::Resu
             write!(line, "{}", Summed { packet, sum })
         }
         None => write!(line, "nothing"),
-    }
-}
-
-// A reply of one word, or of one number.
-fn put_short(line: &mut Line, reply: Reply) -> fmt::Result {
-    match reply {
-        Reply::Error => write!(line, "error"),
-        Reply::Done => write!(line, "ok"),
-        Reply::Truth(true) => write!(line, "yes"),
-        Reply::Truth(false) => write!(line, "no"),
-        Reply::Number(None) => write!(line, "none"),
-        Reply::Number(Some(n)) => write!(line, "{n}"),
-        Reply::Refused(why) => write!(line, "refused {}", u32::from(why)),
-        Reply::Toi(n) => write!(line, "toi {n}"),
-        _ => Ok(()),
     }
 }

@@ -5,7 +5,9 @@ ghost use Rattle.sender.specs.SenderCalls.{alloc_answer, file_answer, fdt_answer
 ghost use Rattle.desk_program.specs.Replies.{Says, record_shown, reading_shown};
 
 use drain_program::Transfer;
-use sender::sender::{FdtAnswer, Packet, RunAnswer};
+use record_program::WriteWords;
+use sender::fdtsession::Drafted;
+use sender::sender::{Packet, RunAnswer};
 use sizes::partition::Partition;
 use sizes::refusal::Refusal;
 use wire::record::Record;
@@ -29,7 +31,7 @@ pub enum Reply {
     Cut(Partition),
     Drained(Transfer),
     // a record that can be written into a buffer with this room
-    Written { record: Record, room: u8 },
+    Written(WriteWords),
     // the fields of a record that was read
     Fields(Record),
 }
@@ -71,10 +73,10 @@ impl From<RunAnswer> for Reply {
 }
 
 // To a run of the FDT session.
-impl From<FdtAnswer> for Reply {
+impl From<Drafted<RunAnswer>> for Reply {
     ghost from_gives = { λ a y. Says (fdt_answer a.taken a.answer) y };
 
-    fn from(a: FdtAnswer) -> Reply {
+    fn from(a: Drafted<RunAnswer>) -> Reply {
         match a.answer {
             Ok(packet) => Reply::SentFdt {
                 taken: a.taken,
@@ -85,14 +87,16 @@ impl From<FdtAnswer> for Reply {
     }
 }
 
-// A reply holds no bytes: those of a record that can be written are put into its text.
-pub fn record_reply(r: Record, room: u8) -> Reply
-    ensures { result ≡ record_shown r room }
-{
-    if record_program::is_writable(r, room) {
-        Reply::Written { record: r, room }
-    } else {
-        Reply::Refused(Refusal::Record)
+// To a record that is to be written. A reply holds no bytes: those of a record that can be written are put into its text.
+impl From<WriteWords> for Reply {
+    ghost from_gives = { λ w y. y ≡ record_shown w.record w.room };
+
+    fn from(w: WriteWords) -> Reply {
+        if w.is_writable() {
+            Reply::Written(w)
+        } else {
+            Reply::Refused(Refusal::Record)
+        }
     }
 }
 

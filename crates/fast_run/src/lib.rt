@@ -8,7 +8,7 @@ ghost use Rattle.sender.specs.SenderCalls.{answer_of};
 ghost use Rattle.sender.specs.declared.sendersession.Outcome.TheVariants as OutcomeV;
 ghost use Rattle.fast_run.specs.Settle.{ValidSession, settled_as, settled_of};
 
-use host_structs::answers::{Sent, run_told};
+use host_structs::answers::Sent;
 use lifecycle::slots::Slot;
 use sender::blockencoder::Symbol;
 use sender::sender::Packet;
@@ -27,7 +27,7 @@ fn nothing(session: SenderSession) -> Settled
     ensures { result ≡ settled_as (Ok None) session }
 {
     Settled {
-        answer: run_told(false, Ok(None)),
+        answer: Sent::from(Ok(None)),
         session,
     }
 }
@@ -43,7 +43,7 @@ fn one(session: SenderSession, toi: u64, symbol: Symbol) -> Settled
         symbol,
     };
     Settled {
-        answer: run_told(false, Ok(Some(packet))),
+        answer: Sent::from(Ok(Some(packet))),
         session,
     }
 }

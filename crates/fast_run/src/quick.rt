@@ -3,7 +3,7 @@ ghost use Rattle.std.specs.Prelude.{◌≡◌};
 ghost use Rattle.fast_run.specs.Settle.{ValidSession};
 ghost use Rattle.fast_run.specs.Quick.{Glances, is_due};
 
-use host_structs::answers::{Sent, run_told};
+use host_structs::answers::Sent;
 use lifecycle::slots::Slot;
 use sender::sender::Packet;
 use sender::sendersession::SenderSession;
@@ -48,6 +48,6 @@ pub fn glance(x: &SenderSession, t: &Slot, waiting: usize, at: u64) -> Option<Nu
         esi: Esi(v.symbol.esi.0 + 1),
         next: v.place + 1,
         due: after.due,
-        answer: run_told(false, Ok(Some(packet))),
+        answer: Sent::from(Ok(Some(packet))),
     })
 }

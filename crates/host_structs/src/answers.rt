@@ -1,9 +1,10 @@
 // What the host is told: numbers and plain structs. A refusal has its number of the table; 0 is none.
-ghost use Rattle.std.specs.Prelude.{◌≡◌};
+ghost use Rattle.std.specs.Prelude.{◌≡◌, false};
 ghost use Rattle.host_structs.specs.Answers.{numbered_told, refusal_told, transfers_told, not_sent, run_told};
 
 use lifecycle::parts::Part;
 use sender::blockencoder::Symbol;
+use sender::fdtsession::Drafted;
 use sender::sender::{Packet, RunAnswer};
 use sizes::numbers::{Esi, Sbn};
 use sizes::refusal::Refusal;
@@ -94,17 +95,33 @@ fn not_sent(refused: u32, taken: bool) -> Sent
     }
 }
 
-pub fn run_told(taken: bool, a: RunAnswer) -> Sent
-    ensures { result ≡ run_told taken a }
-{
-    match a {
-        Ok(Some(packet)) => Sent {
-            refused: 0,
-            taken,
-            sent: true,
-            packet,
-        },
-        Ok(None) => not_sent(0, taken),
-        Err(why) => not_sent(u32::from(why), taken),
+// A run of the FDT session.
+impl From<Drafted<RunAnswer>> for Sent {
+    ghost from_gives = { λ a r. r ≡ run_told a.taken a.answer };
+
+    fn from(a: Drafted<RunAnswer>) -> Sent {
+        let taken = a.taken;
+        match a.answer {
+            Ok(Some(packet)) => Sent {
+                refused: 0,
+                taken,
+                sent: true,
+                packet,
+            },
+            Ok(None) => not_sent(0, taken),
+            Err(why) => not_sent(u32::from(why), taken),
+        }
+    }
+}
+
+// A run of a file session, which takes no draft.
+impl From<RunAnswer> for Sent {
+    ghost from_gives = { λ a r. r ≡ run_told false a };
+
+    fn from(answer: RunAnswer) -> Sent {
+        Sent::from(Drafted {
+            taken: false,
+            answer,
+        })
     }
 }

@@ -61,24 +61,26 @@ fn untouched() -> [u8; 256]
     [0xAA; 256]
 }
 
-// Can the record be written into a buffer with this room?
-pub fn is_writable(r: Record, room: u8) -> bool
-    ensures { result ≡ room_for room r }
-{
-    let mut space = untouched();
-    let buffer: &mut [u8] = &mut space;
-    let n = room as usize;
-    wire::record::write(&mut buffer[..n], r).is_ok()
-}
+impl WriteWords {
+    // Can the record be written into the buffer?
+    pub fn is_writable(&self) -> bool
+        ensures { result ≡ room_for self.now.room self.now.record }
+    {
+        let mut space = untouched();
+        let buffer: &mut [u8] = &mut space;
+        let n = self.room as usize;
+        wire::record::write(&mut buffer[..n], self.record).is_ok()
+    }
 
-// Puts the bytes of a buffer with this room, into which the record is written, at the front of out, and answers where they end.
-pub fn put_written(out: &mut [u8], r: Record, room: u8) -> usize {
-    let mut space = untouched();
-    let buffer: &mut [u8] = &mut space;
-    let n = room as usize;
-    let _ = wire::record::write(&mut buffer[..n], r);
-    let at = text::put_text(out, 0, b"record ");
-    hex::put_hex(out, at, text::part(buffer, 0, n))
+    // Puts the bytes of the buffer, into which the record is written, at the front of out, and answers where they end.
+    pub fn put_written(&self, out: &mut [u8]) -> usize {
+        let mut space = untouched();
+        let buffer: &mut [u8] = &mut space;
+        let n = self.room as usize;
+        let _ = wire::record::write(&mut buffer[..n], self.record);
+        let at = text::put_text(out, 0, b"record ");
+        hex::put_hex(out, at, text::part(buffer, 0, n))
+    }
 }
 
 // A record that was read, as `fields FDT CLOSE FDT_ID TOI BLOCK SYMBOL LENGTH TRANSFER_LENGTH COUNT`.

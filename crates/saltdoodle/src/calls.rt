@@ -9,16 +9,13 @@ ghost use Rattle.saltdoodle.specs.Lent.{session_at, slot_of, ReservesLent, Relea
 
 use fast_run::quick::{Numbers, glance};
 use fast_run::{Settled, settle};
-use host_structs::answers::{Counted, Numbered, Sent, refusal_told, run_told};
+use host_structs::answers::{Counted, Numbered, Sent, refusal_told};
 use host_structs::inputs::{PlainObject, PlainSetup, named_in};
 use lifecycle::filedesc::Time;
 use lifecycle::parts::Part;
 use sender::sender::{Object, Sender};
 use sender::setup::{Setup, set_up};
-use sizes::limits::MOST_SESSIONS;
-
-// How many file sessions there may be, as a session is named.
-const SESSIONS: u64 = MOST_SESSIONS as u64;
+use sizes::limits::LARGEST_NAMED_COUNT;
 
 // Fills the sender, where zeros may stand before; a refused set-up leaves what stood there.
 pub fn sd_set_up(s: &mut Sender, z: PlainSetup) -> u32
@@ -87,8 +84,7 @@ pub fn sd_run_fdt(s: &mut Sender, at: u64, draft: Part) -> Sent
     requires { ValidSender s.old }
     ensures { RunsFdtLent at draft s.old s.new result }
 {
-    let r = s.run_fdt(at, Some(draft));
-    run_told(r.taken, r.answer)
+    Sent::from(s.run_fdt(at, Some(draft)))
 }
 
 // The numbers after the packet of file session j, where it only moves its block on.
@@ -114,7 +110,7 @@ pub fn sd_run(s: &mut Sender, i: u64, at: u64) -> Sent
     requires { ValidSender s.old }
     ensures { RunsFileLent i at s.old s.new result }
 {
-    if i < SESSIONS {
+    if i < LARGEST_NAMED_COUNT {
         let j = i as usize;
         if let Some(g) = glance_at(s, j, at) {
             let x = &mut s.sessions[j];
@@ -128,7 +124,7 @@ pub fn sd_run(s: &mut Sender, i: u64, at: u64) -> Sent
             return f.answer;
         }
     }
-    run_told(false, s.run(i, at))
+    Sent::from(s.run(i, at))
 }
 
 // Is the object listed?

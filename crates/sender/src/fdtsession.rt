@@ -18,11 +18,11 @@ pub struct FdtSession {
     pub encoder: BlockEncoder,
 }
 
-// What a run comes to, and whether it took the draft.
+// What a run comes to or gives, and whether it took the draft.
 #[derive(Clone, Copy)]
-pub struct FdtOutcome {
+pub struct Drafted<A> {
     pub taken: bool,
-    pub answer: Outcome,
+    pub answer: A,
 }
 
 // A draft that was taken is not there any more.
@@ -79,20 +79,20 @@ impl FdtSession {
         now: u64,
         draft: Option<Part>,
         taken: bool,
-    ) -> FdtOutcome
+    ) -> Drafted<Outcome>
         requires { FdtTries fdt.old width draft self.old }
         ensures { fdt_attempted_of width now draft taken fdt.old self.old ≡ record { taken = result.taken; answer = result.answer; fdt = fdt.new; session = self.new } }
     {
         if self.busy {
             let answer = self.send(fdt, now);
-            return FdtOutcome { taken, answer };
+            return Drafted { taken, answer };
         }
         let next = fdt.get_next_fdt_transfer(now, left_draft(draft, taken));
         if next.starts {
             *self = FdtSession::begin(&fdt.announcer.current, fdt.settings.sizes, width);
         }
         let answer = self.send(fdt, now);
-        FdtOutcome {
+        Drafted {
             taken: taken || next.taken,
             answer,
         }
@@ -105,7 +105,7 @@ impl FdtSession {
         width: usize,
         now: u64,
         draft: Option<Part>,
-    ) -> FdtOutcome
+    ) -> Drafted<Outcome>
         requires { FdtTries fdt.old width draft self.old }
         ensures { fdt_ran_of width now draft fdt.old self.old ≡ record { taken = result.taken; answer = result.answer; fdt = fdt.new; session = self.new } }
     {

@@ -4,7 +4,7 @@ ghost use Rattle.sizes.specs.Words.{any};
 ghost use Rattle.sender.specs.SenderCalls.{ValidSender, has_priority, answer_of, request_of, Reserves, Releases, Adds, Removes, Prompts, Lists, CountsTransfers, Completes, Publishes, RunsFdt, RunsFile};
 
 use crate::blockencoder::Symbol;
-use crate::fdtsession::FdtSession;
+use crate::fdtsession::{Drafted, FdtSession};
 use crate::sendersession::{Outcome, SenderSession};
 use lifecycle::fdt::{Fdt, Request, real_draft};
 use lifecycle::filedesc::{Carousel, Plan, Target, Time};
@@ -49,13 +49,6 @@ pub struct Packet {
 
 // What a run gives: a packet or nothing, or why it is refused.
 pub type RunAnswer = Result<Option<Packet>, Refusal>;
-
-// What a run of the FDT session gives; `taken`: did it take its draft?
-#[derive(Clone, Copy)]
-pub struct FdtAnswer {
-    pub taken: bool,
-    pub answer: RunAnswer,
-}
 
 // The answer of a run of a session.
 fn run_answer(answer: Outcome, is_fdt: bool, toi: u64, fdt_id: u32) -> RunAnswer
@@ -174,19 +167,19 @@ impl Sender {
     }
 
     // The FDT session, with a draft or none.
-    pub fn run_fdt(&mut self, now: u64, draft: Option<Part>) -> FdtAnswer
+    pub fn run_fdt(&mut self, now: u64, draft: Option<Part>) -> Drafted<RunAnswer>
         requires { ValidSender self.old }
         ensures { RunsFdt now draft self.old (record { taken = result.taken; answer = result.answer; sender = self.new }) }
     {
         let draft = real_draft(draft);
         if let Err(why) = self.fdt.test_draft(draft) {
-            return FdtAnswer {
+            return Drafted {
                 taken: false,
                 answer: Err(why),
             };
         }
         let r = self.fdt_session.run(&mut self.fdt, self.window, now, draft);
-        FdtAnswer {
+        Drafted {
             taken: r.taken,
             answer: run_answer(r.answer, true, 0, self.fdt_session.id),
         }

@@ -65,10 +65,7 @@ fn is_sound(z: Setup) -> bool
 fn is_interval(c: Carousel) -> bool
     ensures { result ≡ is_interval c }
 {
-    match c {
-        Carousel::Delay(_) => false,
-        Carousel::Interval(_) => true,
-    }
+    matches!(c, Carousel::Interval(_))
 }
 
 fn interval_in(c: Carousel) -> u64

@@ -27,4 +27,4 @@ overflow_add-result-2 c =
 
 pub returns : goal.returns
 returns c =
-    glances c.args.waiting c.args.at c.args.t.now c.args.x.now c.requires _ c.is_due.ensures c.if-not-is_due.false _ c.glance.ensures _ c.in_ok-v.was _ c.ticked-after.ensures _ c.run_told.ensures
+    glances c.args.waiting c.args.at c.args.t.now c.args.x.now c.requires _ c.is_due.ensures c.if-not-is_due.false _ c.glance.ensures _ c.in_ok-v.was _ c.ticked-after.ensures _ c.from.ensures

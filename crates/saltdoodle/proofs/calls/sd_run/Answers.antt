@@ -16,7 +16,7 @@ bounds-x-g c =
     q.place
 
 pub returns-in-Some : goal.returns-in-Some
-returns-in-Some c = glances_stored c.args.s.now c.requires c.args.i c.if-i-lt-SESSIONS.true _ c.args.at c.in-Some.g (c.glance_at.ensures.settles c.in-Some.g c.in-Some.is)
+returns-in-Some c = glances_stored c.args.s.now c.requires c.args.i c.if-i-lt-LARGEST_NAMED_COUNT.true _ c.args.at c.in-Some.g (c.glance_at.ensures.settles c.in-Some.g c.in-Some.is)
 
 pub returns-in-Some-settle_at : goal.returns-in-Some-settle_at
 returns-in-Some-settle_at c = settles c.args.s.now c.requires c.args.i c.args.at c.in-Some-settle_at.f (sym c.settle_at.ensures ∙ c.in-Some-settle_at.is)
