@@ -1,7 +1,7 @@
 -- The full desk, and the desk on which only the priority's calls are made: what the one has of the priority, the other has too.
 use mathlib.Core.Path.{◌≡◌, refl, sym, ◌∙◌, ap, subst}
 use mathlib.Core.Bool.{Bool, true, false, not, ◌&&◌, ◌||◌, true≢false, false≢true}
-use mathlib.Core.Option.{Option, none, some}
+use Rattle.std.specs.Prelude.{Option, None, Some}
 use mathlib.Core.List.{List, [], ◌∷◌, ◌++◌, map}
 use Prim.Native.Nat.{ℕ, suc, ◌≤◌}
 use native.Mathlib.Omega.{arith}
@@ -28,11 +28,11 @@ use Rattle.sizes.proofs.Lists.{at_map}
 -- what sessions send, as it is seen
 module _ (p : ℕ) (f : ℕ → ℕ) where
   sending_one : (t : Bool) (h : Option Hand) (A B : List Object) → Same_mine p t h → A ≡ seen p f B
-      → maybe A (λ o. o ∷ A) (maybe none (λ (h : Hand). some h.object) (when t then over (retag_held f) h else none)) ≡ seen p f (maybe B (λ o. o ∷ B) (maybe none (λ (h : Hand). some h.object) h))
-  sending_one true none A B e k = k
-  sending_one false none A B e k = k
-  sending_one true (some h) A B e k = rw e (ap (λ l. retag f h.object ∷ l) k)
-  sending_one false (some h) A B e k = rw e k
+      → maybe A (λ o. o ∷ A) (maybe None (λ (h : Hand). Some h.object) (when t then over (retag_held f) h else None)) ≡ seen p f (maybe B (λ o. o ∷ B) (maybe None (λ (h : Hand). Some h.object) h))
+  sending_one true None A B e k = k
+  sending_one false None A B e k = k
+  sending_one true (Some h) A B e k = rw e (ap (λ l. retag f h.object ∷ l) k)
+  sending_one false (Some h) A B e k = rw e k
 
 sending_seen : (p : ℕ) (j : List ℕ) (l : List Session) → Each (Fits p j) l → in_hands (map (see p (key j)) l) ≡ seen p (key j) (in_hands l)
 unfolding in_hands
@@ -105,8 +105,8 @@ session_seen : (p : ℕ) (f : ℕ → ℕ) (l : List Session) (n : ℕ)
 session_seen p f l n = ap (maybe false (λ (x : Session). eqb x.priority p)) (at_map (see p f) l n) ∙ go (at l n)
   where
     go : (x : Option Session) → maybe false (λ (x : Session). eqb x.priority p) (over (see p f) x) ≡ maybe false (λ (x : Session). eqb x.priority p) x
-    go none = refl
-    go (some x) = refl
+    go None = refl
+    go (Some x) = refl
 
 -- a session of the priority stands there at the same place
 pub session_there : (s : Setup) (p : ℕ) (j : List ℕ) (d : Desk) (i : List ℕ) (e : Desk) (now n : ℕ) → Rel s p j d i e → about p d (Call.run_file n now) ≡ true → about p e (Call.run_file n now) ≡ true
@@ -171,12 +171,12 @@ module _ (s : Setup) (p : ℕ) (j : List ℕ) (d : Desk) (i : List ℕ) (e : Des
   early_there q = sym (early_seen p i s e q) ∙ ap (λ v. early_refusal s v q) (sym r.same) ∙ early_seen p j s d q
 
 late_unless : (x : Option Refusal) (d : Desk) (t : ℕ) (d' : Desk) → is_barred (unless x d (Answer.number t, d')).0 ≡ late_no x
-late_unless none d t d' = refl
-late_unless (some n) d t d' = refl
+late_unless None d t d' = refl
+late_unless (Some n) d t d' = refl
 
 -- an add that does not meet 5, 6 or 7 does not meet them there
 pub add_there : (s : Setup) (p : ℕ) (j : List ℕ) (d : Desk) (i : List ℕ) (e : Desk) (named named' : Option ℕ) (q : Request) → Rel s p j d i e
-    → (add_refusal s d named q ≡ none → (not_loose e named' ≡ false) × (no_room e named' ≡ false))
+    → (add_refusal s d named q ≡ None → (not_loose e named' ≡ false) × (no_room e named' ≡ false))
     → is_barred (step s d (Call.add named q)).0 ≡ false → is_barred (step s e (Call.add named' q)).0 ≡ false
 unfolding step
 add_there s p j d i e named named' q r k h =
@@ -186,13 +186,13 @@ add_there s p j d i e named named' q r k h =
     on_time : late_no (add_refusal s d named q) ≡ false
     on_time = sym (late_unless (add_refusal s d named q) d (toi_for d named) (admitted s (toi_for d named) q (when given named then d else reserved s d))) ∙ h
 
-    rows : early_refusal s e q ≡ none → (bad_object_part s e q.part ≡ false) × (not_loose e named' ≡ false) × (no_room e named' ≡ false)
+    rows : early_refusal s e q ≡ None → (bad_object_part s e q.part ≡ false) × (not_loose e named' ≡ false) × (no_room e named' ≡ false)
     rows z =
         let y = add_early s d named q on_time ∙ sym (early_there s p j d i e r q) ∙ z in
         (part_there s p j d i e r q.part (admissible s d named q y).part_fits, (k y).0, (k y).1)
 
 -- an add is about its own priority
-about_add : (p : ℕ) (d : Desk) (c : Call) (x : Option ℕ × Request) → adding c ≡ some x → about p d c ≡ eqb x.1.priority p
+about_add : (p : ℕ) (d : Desk) (c : Call) (x : Option ℕ × Request) → adding c ≡ Some x → about p d c ≡ eqb x.1.priority p
 unfolding about
 about_add p d (Call.add named q) x e = let z : (named, q) ≡ x = cc in ap (λ (y : Option ℕ × Request). eqb y.1.priority p) z
 about_add p d Call.reserve x e = absurd (none≢some e)
@@ -205,16 +205,16 @@ about_add p d (Call.run_fdt now draft) x e = absurd (none≢some e)
 about_add p d (Call.run_file n now) x e = absurd (none≢some e)
 
 -- a call that does not admit for a priority notes nothing for it
-noted_other : (r : ℕ) (c : Call) (a : Answer) (j : List ℕ) → ((x : Option ℕ × Request) → adding c ≡ some x → eqb x.1.priority r ≡ false) → got_after r c a j ≡ j
+noted_other : (r : ℕ) (c : Call) (a : Answer) (j : List ℕ) → ((x : Option ℕ × Request) → adding c ≡ Some x → eqb x.1.priority r ≡ false) → got_after r c a j ≡ j
 noted_other r c a j h = go (adding c) refl
   where
     nothing : (n : Option ℕ) → maybe j (λ (t : ℕ). j) n ≡ j
-    nothing none = refl
-    nothing (some t) = refl
+    nothing None = refl
+    nothing (Some t) = refl
 
     go : (y : Option (Option ℕ × Request)) → adding c ≡ y → maybe j (λ (x : Option ℕ × Request). maybe j (λ t. when eqb x.1.priority r then t ∷ j else j) (number_in a)) y ≡ j
-    go none e = refl
-    go (some x) e = simp (h x e) (nothing (number_in a))
+    go None e = refl
+    go (Some x) e = simp (h x e) (nothing (number_in a))
 
 -- a call that is not the priority's notes nothing for it, and one that is nothing for another
 pub noted_hidden : (p : ℕ) (d : Desk) (c : Call) (a : Answer) (j : List ℕ) → about p d c ≡ false → got_after p c a j ≡ j

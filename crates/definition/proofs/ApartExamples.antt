@@ -1,7 +1,7 @@
 -- One run, computed: what is about priority 3 in it, what it is told, and the run where only its calls are made.
 use mathlib.Core.Path.{◌≡◌, refl}
 use mathlib.Core.Bool.{true, false}
-use mathlib.Core.Option.{Option, none, some}
+use Rattle.std.specs.Prelude.{Option, None, Some}
 use mathlib.Core.List.{List, [], ◌∷◌}
 use Prim.Native.Nat.{ℕ}
 use Rattle.sizes.specs.Partition.{sbn, esi}
@@ -19,15 +19,15 @@ packet id t c = record { id = id; toi = t; symbol = record { block = sbn 0; symb
 -- the reservation 65_535 is the priority's, and is asked after before it is used; the reservation 1 is nobody's; 65_534 is another's object, and nothing once it was removed
 example_run : List Call
 example_run =
-    Call.add none (object 7 10 4 1)
+    Call.add None (object 7 10 4 1)
     ∷ Call.reserve
     ∷ Call.ask (Question.listed 65_535)
     ∷ Call.reserve
     ∷ Call.ask (Question.listed 1)
     ∷ Call.release 1
-    ∷ Call.add (some 65_535) (object 3 20 2 2)
+    ∷ Call.add (Some 65_535) (object 3 20 2 2)
     ∷ Call.publish 100 (bytes 0 2)
-    ∷ Call.run_fdt 100 none
+    ∷ Call.run_fdt 100 None
     ∷ Call.touch 65_534 Touch.remove
     ∷ Call.ask (Question.listed 65_534)
     ∷ Call.ask (Question.listed 65_535)
@@ -40,22 +40,22 @@ record Example : Type 0 where
   smooth_3 : smooth setup 3 (opening setup) example_run ≡ true
   -- its calls: its object is its first admission
   about_3 : calls setup 3 [] (opening setup) example_run
-      ≡ Call.add none (object 3 20 2 2) ∷ Call.publish 100 (bytes 0 2) ∷ Call.run_fdt 100 none ∷ Call.ask (Question.listed 1) ∷ Call.run_file 1 100 ∷ []
+      ≡ Call.add None (object 3 20 2 2) ∷ Call.publish 100 (bytes 0 2) ∷ Call.run_fdt 100 None ∷ Call.ask (Question.listed 1) ∷ Call.run_file 1 100 ∷ []
   -- what it is told
   told_3 : answers setup 3 [] (opening setup) example_run
       ≡ Answer.number 1
       ∷ Answer.done
-      ∷ Answer.fdt_output false (some (packet (some 0xFFFFF) 0 (bytes 0 2)))
+      ∷ Answer.fdt_output false (Some (packet (Some 0xFFFFF) 0 (bytes 0 2)))
       ∷ Answer.truth true
-      ∷ Answer.output (some (packet none 1 (record { start = 20; size = 2 })))
+      ∷ Answer.output (Some (packet None 1 (record { start = 20; size = 2 })))
       ∷ []
   -- the run where only its calls are made: its reservation and the question after it are there, and the numbers are those that it gets there
   only_3 : lone setup 3 example_run
       ≡ Call.reserve
       ∷ Call.ask (Question.listed 65_534)
-      ∷ Call.add (some 65_534) (object 3 20 2 2)
+      ∷ Call.add (Some 65_534) (object 3 20 2 2)
       ∷ Call.publish 100 (bytes 0 2)
-      ∷ Call.run_fdt 100 none
+      ∷ Call.run_fdt 100 None
       ∷ Call.ask (Question.listed 65_534)
       ∷ Call.run_file 1 100
       ∷ []

@@ -1,7 +1,7 @@
 -- A priority's calls are answered as on a desk that has only them; so two runs with the same of them are answered alike, and the numbers in the answers are those that its admissions got.
 use mathlib.Core.Path.{◌≡◌, refl, sym, ◌∙◌, ap, subst}
 use mathlib.Core.Bool.{Bool, true, false, not, ◌&&◌, ◌||◌, true≢false, false≢true}
-use mathlib.Core.Option.{Option, none, some}
+use Rattle.std.specs.Prelude.{Option, None, Some}
 use mathlib.Core.List.{List, [], ◌∷◌, ◌++◌, map, append-nil}
 use Prim.Native.Nat.{ℕ, suc, ◌+◌, ◌≤◌}
 use native.Mathlib.Omega.{arith}
@@ -93,27 +93,27 @@ own_run s d (c ∷ l) = let r = own_step s d c in r.0 ∷ own_run s r.1 l
 
 -- the listed object that a session sends
 abbrev pick : Option Hand → Option Object
-pick = maybe none (λ (h : Hand). when h.listed then some h.object else none)
+pick = maybe None (λ (h : Hand). when h.listed then Some h.object else None)
 
 -- what a session sends is the priority's exactly where the session is
 abbrev pub Same_mine : ℕ → Bool → Option Hand → Type 0
-Same_mine p t none = Unit {0}
-Same_mine p t (some h) = mine p h.object ≡ t
+Same_mine p t None = Unit {0}
+Same_mine p t (Some h) = mine p h.object ≡ t
 
 pub same_mine : (p r : ℕ) (j : List ℕ) (h : Option Hand) → HeldFits p j r h → Same_mine p (eqb r p) h
-same_mine p r j none v = tt
-same_mine p r j (some h) v = ap (λ n. eqb n p) v.0
+same_mine p r j None v = tt
+same_mine p r j (Some h) v = ap (λ n. eqb n p) v.0
 
 module _ (p : ℕ) (f : ℕ → ℕ) where
   sent_one : (t : Bool) (h : Option Hand) (A B : List Object) → Same_mine p t h → A ≡ seen p f B
-      → maybe A (λ o. o ∷ A) (pick (when t then over (retag_held f) h else none)) ≡ seen p f (maybe B (λ o. o ∷ B) (pick h))
-  sent_one true none A B e k = k
-  sent_one false none A B e k = k
-  sent_one true (some h) A B e k = elim h.listed
-      as (λ b. maybe A (λ o. o ∷ A) (when b then some (retag f h.object) else none) ≡ seen p f (maybe B (λ o. o ∷ B) (when b then some h.object else none)))
+      → maybe A (λ o. o ∷ A) (pick (when t then over (retag_held f) h else None)) ≡ seen p f (maybe B (λ o. o ∷ B) (pick h))
+  sent_one true None A B e k = k
+  sent_one false None A B e k = k
+  sent_one true (Some h) A B e k = elim h.listed
+      as (λ b. maybe A (λ o. o ∷ A) (when b then Some (retag f h.object) else None) ≡ seen p f (maybe B (λ o. o ∷ B) (when b then Some h.object else None)))
       [ true ↦ rw e (ap (λ l. retag f h.object ∷ l) k) | false ↦ k ]
-  sent_one false (some h) A B e k = elim h.listed
-      as (λ b. A ≡ seen p f (maybe B (λ o. o ∷ B) (when b then some h.object else none)))
+  sent_one false (Some h) A B e k = elim h.listed
+      as (λ b. A ≡ seen p f (maybe B (λ o. o ∷ B) (when b then Some h.object else None)))
       [ true ↦ rw e k | false ↦ k ]
 
 -- objects that sessions send, as they are seen
@@ -130,9 +130,9 @@ sending_noted p j [] u = tt
 sending_noted p j (x ∷ l) u = go x.hand u.0 (sending_noted p j l u.1)
   where
     go : (h : Option Hand) → HeldFits p j x.priority h → Each (Noted p j) (in_hands l)
-        → Each (Noted p j) (maybe (in_hands l) (λ o. o ∷ in_hands l) (maybe none (λ (h : Hand). some h.object) h))
-    go none v w = w
-    go (some h) v w = (v.1, w)
+        → Each (Noted p j) (maybe (in_hands l) (λ o. o ∷ in_hands l) (maybe None (λ (h : Hand). Some h.object) h))
+    go None v w = w
+    go (Some h) v w = (v.1, w)
 
 -- and all objects
 pub objects_noted : (p : ℕ) (j : List ℕ) (d : Desk) → Known p j d → Each (Noted p j) (objects d)
@@ -198,9 +198,9 @@ listed_of P [] u = tt
 listed_of P (x ∷ l) u = go (listed_of P l) x.hand u
   where
     go : (Each P (in_hands l) → Each P (listed_in_hands l)) → (h : Option Hand)
-        → Each P (maybe (in_hands l) (λ o. o ∷ in_hands l) (maybe none (λ (h : Hand). some h.object) h)) → Each P (maybe (listed_in_hands l) (λ o. o ∷ listed_in_hands l) (pick h))
-    go back none v = back v
-    go back (some h) v = elim h.listed as (λ b. Each P (maybe (listed_in_hands l) (λ o. o ∷ listed_in_hands l) (when b then some h.object else none)))
+        → Each P (maybe (in_hands l) (λ o. o ∷ in_hands l) (maybe None (λ (h : Hand). Some h.object) h)) → Each P (maybe (listed_in_hands l) (λ o. o ∷ listed_in_hands l) (pick h))
+    go back None v = back v
+    go back (Some h) v = elim h.listed as (λ b. Each P (maybe (listed_in_hands l) (λ o. o ∷ listed_in_hands l) (when b then Some h.object else None)))
         [ true ↦ (v.0, back v.1) | false ↦ back v.1 ]
 
 -- the listed object of an owned number, as it is seen
@@ -231,48 +231,48 @@ given_seen : (p : ℕ) (j : List ℕ) (s : Setup) (d : Desk) (t : ℕ) → Uniqu
 given_seen p j s d t u k e = ap given (listed_as_seen p j s d t u k e) ∙ go (listed_as d t)
   where
     go : (x : Option Object) → given (over (retag (key j)) x) ≡ given x
-    go none = refl
-    go (some o) = refl
+    go None = refl
+    go (Some o) = refl
 
 total_seen : (p : ℕ) (j : List ℕ) (s : Setup) (d : Desk) (t : ℕ) → Unique s d → Known p j d → owns p d t ≡ true
-    → maybe none (λ (o : Object). some o.life.total) (listed_as (view p j d) (key j t)) ≡ maybe none (λ (o : Object). some o.life.total) (listed_as d t)
-total_seen p j s d t u k e = ap (maybe none (λ (o : Object). some o.life.total)) (listed_as_seen p j s d t u k e) ∙ go (listed_as d t)
+    → maybe None (λ (o : Object). Some o.life.total) (listed_as (view p j d) (key j t)) ≡ maybe None (λ (o : Object). Some o.life.total) (listed_as d t)
+total_seen p j s d t u k e = ap (maybe None (λ (o : Object). Some o.life.total)) (listed_as_seen p j s d t u k e) ∙ go (listed_as d t)
   where
-    go : (x : Option Object) → maybe none (λ (o : Object). some o.life.total) (over (retag (key j)) x) ≡ maybe none (λ (o : Object). some o.life.total) x
-    go none = refl
-    go (some o) = refl
+    go : (x : Option Object) → maybe None (λ (o : Object). Some o.life.total) (over (retag (key j)) x) ≡ maybe None (λ (o : Object). Some o.life.total) x
+    go None = refl
+    go (Some o) = refl
 
 -- a change to what sessions hold, as it is seen
 module _ (p : ℕ) (f : ℕ → ℕ) (g g' : Hand → Hand) where
   abbrev Commutes : Option Hand → Type 0
-  Commutes none = Unit {0}
-  Commutes (some h) = mine p h.object ≡ true → retag_held f (g h) ≡ g' (retag_held f h)
+  Commutes None = Unit {0}
+  Commutes (Some h) = mine p h.object ≡ true → retag_held f (g h) ≡ g' (retag_held f h)
 
   see_in_hand : (j : List ℕ) (x : Session) → Fits p j x → Commutes x.hand → see p f (in_hand g x) ≡ in_hand g' (see p f x)
   unfolding in_hand
   see_in_hand j x u c = λ i. record { priority = x.priority; hand = go (eqb x.priority p) x.hand (same_mine p x.priority j x.hand u) c i }
     where
       go : (b : Bool) (h : Option Hand) → Same_mine p b h → Commutes h
-          → (when b then over (retag_held f) (maybe none (λ y. some (g y)) h) else none) ≡ maybe none (λ y. some (g' y)) (when b then over (retag_held f) h else none)
-      go true none m c = refl
-      go true (some h) m c = ap some (c m)
-      go false none m c = refl
-      go false (some h) m c = refl
+          → (when b then over (retag_held f) (maybe None (λ y. Some (g y)) h) else None) ≡ maybe None (λ y. Some (g' y)) (when b then over (retag_held f) h else None)
+      go true None m c = refl
+      go true (Some h) m c = ap Some (c m)
+      go false None m c = refl
+      go false (Some h) m c = refl
 
   abbrev Idle : Option Hand → Type 0
-  Idle none = Unit {0}
-  Idle (some h) = mine p h.object ≡ true → g h ≡ h
+  Idle None = Unit {0}
+  Idle (Some h) = mine p h.object ≡ true → g h ≡ h
 
   see_unmoved : (j : List ℕ) (x : Session) → Fits p j x → Idle x.hand → see p f (in_hand g x) ≡ see p f x
   unfolding in_hand
   see_unmoved j x u c = λ i. record { priority = x.priority; hand = go (eqb x.priority p) x.hand (same_mine p x.priority j x.hand u) c i }
     where
       go : (b : Bool) (h : Option Hand) → Same_mine p b h → Idle h
-          → (when b then over (retag_held f) (maybe none (λ y. some (g y)) h) else none) ≡ (when b then over (retag_held f) h else none)
-      go true none m c = refl
-      go true (some h) m c = ap (λ y. some (retag_held f y)) (c m)
-      go false none m c = refl
-      go false (some h) m c = refl
+          → (when b then over (retag_held f) (maybe None (λ y. Some (g y)) h) else None) ≡ (when b then over (retag_held f) h else None)
+      go true None m c = refl
+      go true (Some h) m c = ap (λ y. Some (retag_held f y)) (c m)
+      go false None m c = refl
+      go false (Some h) m c = refl
 
 -- publish, as it is seen
 published_seen : (p : ℕ) (j : List ℕ) (d : Desk) → Known p j d → all_published (view p j d) ≡ view p j (all_published d)
@@ -288,8 +288,8 @@ published_seen p j d k = λ i. record {
 }
   where
     commute : (h : Option Hand) → Commutes p (key j) marked_hand marked_hand h
-    commute none = tt
-    commute (some h) = λ e. elim h.listed as (λ b. retag_held (key j) (when b then record { object = marked h.object; listed = true; encoder = h.encoder; pace = h.pace } else h)
+    commute None = tt
+    commute (Some h) = λ e. elim h.listed as (λ b. retag_held (key j) (when b then record { object = marked h.object; listed = true; encoder = h.encoder; pace = h.pace } else h)
         ≡ (when b then record { object = marked (retag (key j) h.object); listed = true; encoder = h.encoder; pace = h.pace } else retag_held (key j) h)) [ true ↦ refl | false ↦ refl ]
 
 -- a touch of an owned number, as it is seen
@@ -311,19 +311,19 @@ touched_seen p j d t x k e = λ i. record {
 
     waits : (o : Object) → Noted p j o → Commute o
     waits o n m = rw (key_eqb j t o.toi e (n m))
-        (elim (eqb o.toi t) as (λ b. (when b then waiting_after x (retag (key j) o) else some (retag (key j) o)) ≡ over (retag (key j)) (when b then waiting_after x o else some o))
+        (elim (eqb o.toi t) as (λ b. (when b then waiting_after x (retag (key j) o) else Some (retag (key j) o)) ≡ over (retag (key j)) (when b then waiting_after x o else Some o))
         [ true ↦ (renumbered_after (key j) x).0 o | false ↦ refl ])
 
     commute : (r : ℕ) (h : Option Hand) → HeldFits p j r h → Commutes p (key j) (touched_hand t x) (touched_hand (key j t) x) h
-    commute r none u = tt
-    commute r (some h) u = λ m. rw (key_eqb j t h.object.toi e (u.1 m))
+    commute r None u = tt
+    commute r (Some h) u = λ m. rw (key_eqb j t h.object.toi e (u.1 m))
         (elim (eqb h.object.toi t) as (λ b. retag_held (key j) (when b then hand_after x h else h) ≡ (when b then hand_after x (retag_held (key j) h) else retag_held (key j) h))
         [ true ↦ sym ((renumbered_after (key j) x).1 h) | false ↦ refl ])
 
 -- what a session holds has the property
 abbrev pub HeldHas : (Object → Type 0) → Option Hand → Type 0
-HeldHas P none = Unit {0}
-HeldHas P (some h) = P h.object
+HeldHas P None = Unit {0}
+HeldHas P (Some h) = P h.object
 
 -- a number that the priority does not own: its objects do not have it
 unowned : (p t : ℕ) (q : List Object) → any (λ o. mine p o && is t o) q ≡ false → Each (λ o. mine p o ≡ true → is t o ≡ false) q
@@ -340,9 +340,9 @@ each_sent P [] u = tt
 each_sent P (x ∷ l) u = go (each_sent P l) x.hand u
   where
     go : (Each P (in_hands l) → Each (λ (x : Session). HeldHas P x.hand) l) → (h : Option Hand)
-        → Each P (maybe (in_hands l) (λ o. o ∷ in_hands l) (maybe none (λ (h : Hand). some h.object) h)) → HeldHas P h × Each (λ (x : Session). HeldHas P x.hand) l
-    go back none v = (tt, back v)
-    go back (some h) v = (v.0, back v.1)
+        → Each P (maybe (in_hands l) (λ o. o ∷ in_hands l) (maybe None (λ (h : Hand). Some h.object) h)) → HeldHas P h × Each (λ (x : Session). HeldHas P x.hand) l
+    go back None v = (tt, back v)
+    go back (Some h) v = (v.0, back v.1)
 
 -- a touch of a number that is not owned does not show
 touched_hidden : (p : ℕ) (j : List ℕ) (d : Desk) (t : ℕ) (x : Touch) → Known p j d → owns p d t ≡ false → view p j (touched t x d) ≡ view p j d
@@ -353,7 +353,7 @@ touched_hidden p j d t x k e = λ i. record {
   loose = [];
   fdt = d.fdt;
   queue = seen_still (touched_waiting t x) (touched_kept t x) p (key j) d.queue
-      (each_imp (λ o. mine p o ≡ true → is t o ≡ false) (λ o. mine p o ≡ true → touched_waiting t x o ≡ some o) (λ o n m. rw (n m)) d.queue
+      (each_imp (λ o. mine p o ≡ true → is t o ≡ false) (λ o. mine p o ≡ true → touched_waiting t x o ≡ Some o) (λ o n m. rw (n m)) d.queue
       (each_left (λ o. mine p o ≡ true → is t o ≡ false) d.queue (in_hands d.sessions) away)) i;
   sessions = map_hidden (see p (key j)) (in_hand (touched_hand t x)) d.sessions
       (each_both (Fits p j) (λ (y : Session). HeldHas (λ o. mine p o ≡ true → is t o ≡ false) y.hand) (λ y. see p (key j) (in_hand (touched_hand t x) y) ≡ see p (key j) y)
@@ -365,8 +365,8 @@ touched_hidden p j d t x k e = λ i. record {
     away = unowned p t (d.queue ++ in_hands d.sessions) e
 
     still : (h : Option Hand) → HeldHas (λ o. mine p o ≡ true → is t o ≡ false) h → Idle p (key j) (touched_hand t x) (touched_hand t x) h
-    still none v = tt
-    still (some h) v = λ m. rw (v m)
+    still None v = tt
+    still (Some h) v = λ m. rw (v m)
 
 -- keys that agree on a list's numbers show the same
 seen_same : (p : ℕ) (f g : ℕ → ℕ) (q : List Object) → Each (λ o. f o.toi ≡ g o.toi) q → seen p f q ≡ seen p g q
@@ -380,9 +380,9 @@ see_same : (p : ℕ) (f g : ℕ → ℕ) (l : List Session) → Each (λ (x : Se
 see_same p f g [] u = refl
 see_same p f g (x ∷ l) u = λ i. record { priority = x.priority; hand = go (eqb x.priority p) x.hand u.0 i } ∷ see_same p f g l u.1 i
   where
-    go : (b : Bool) (h : Option Hand) → HeldHas (λ o. f o.toi ≡ g o.toi) h → (when b then over (retag_held f) h else none) ≡ (when b then over (retag_held g) h else none)
-    go true none v = refl
-    go true (some h) v = λ i. some record {
+    go : (b : Bool) (h : Option Hand) → HeldHas (λ o. f o.toi ≡ g o.toi) h → (when b then over (retag_held f) h else None) ≡ (when b then over (retag_held g) h else None)
+    go true None v = refl
+    go true (Some h) v = λ i. Some record {
       object = record { toi = v i; priority = h.object.priority; part = h.object.part; sizes = h.object.sizes; plan = h.object.plan; life = h.object.life };
       listed = h.listed;
       encoder = h.encoder;
@@ -393,8 +393,8 @@ see_same p f g (x ∷ l) u = λ i. record { priority = x.priority; hand = go (eq
 -- the number that an add gets is no object's
 pub fresh_toi : (s : Setup) (d : Desk) (named : Option ℕ) → Unique s d → not_loose d named ≡ false → times (toi_for d named) (tois (objects d)) ≡ 0
 unfolding toi_for not_loose numbers
-fresh_toi s d none u e = let a = times_append d.next d.loose (tois (objects d)) in let b = u.free in omega arith
-fresh_toi s d (some t) u e =
+fresh_toi s d None u e = let a = times_append d.next d.loose (tois (objects d)) in let b = u.free in omega arith
+fresh_toi s d (Some t) u e =
     let a = times_append t d.loose (tois (objects d)) in
     let b = u.once t in
     let c = has_times t d.loose (not-false (has t d.loose) e) in omega arith
@@ -447,12 +447,12 @@ reserved_hidden p j s d = refl
 
 reserved_objects : (s : Setup) (d : Desk) (named : Option ℕ) → objects (when given named then d else reserved s d) ≡ objects d
 unfolding reserved numbered objects
-reserved_objects s d none = refl
-reserved_objects s d (some t) = refl
+reserved_objects s d None = refl
+reserved_objects s d (Some t) = refl
 
 maybe_reserved_hidden : (p : ℕ) (j : List ℕ) (s : Setup) (d : Desk) (named : Option ℕ) → view p j (when given named then d else reserved s d) ≡ view p j d
-maybe_reserved_hidden p j s d none = reserved_hidden p j s d
-maybe_reserved_hidden p j s d (some t) = refl
+maybe_reserved_hidden p j s d None = reserved_hidden p j s d
+maybe_reserved_hidden p j s d (Some t) = refl
 
 -- a priority's session is there for the view too
 any_see : (p r : ℕ) (f : ℕ → ℕ) (l : List Session) → any (λ (x : Session). eqb x.priority r) (map (see p f) l) ≡ any (λ (x : Session). eqb x.priority r) l
@@ -469,7 +469,7 @@ add_result s d named q = (Answer.number (toi_for d named), admitted s (toi_for d
 
 -- an add of the priority
 add_shown : (p : ℕ) (j : List ℕ) (s : Setup) (d : Desk) (named : Option ℕ) (q : Request) → Unique s d → eqb q.priority p ≡ true → is_barred (step s d (Call.add named q)).0 ≡ false
-    → own_step s (view p j d) (Call.add none q) ≡ (
+    → own_step s (view p j d) (Call.add None q) ≡ (
       answer_by (key (got_after p (Call.add named q) (step s d (Call.add named q)).0 j)) (step s d (Call.add named q)).0,
       view p (got_after p (Call.add named q) (step s d (Call.add named q)).0 j) (step s d (Call.add named q)).1,
     )
@@ -485,27 +485,27 @@ add_shown p j s d named q u e h = go (add_refusal s d named q) refl h
     go : (x : Option Refusal) → add_refusal s d named q ≡ x → is_barred (unless x d (add_result s d named q)).0 ≡ false
         → unless (early_refusal s (view p j d) q) (view p j d) (Answer.number (suc (length j)), one_more s q (view p j d))
         ≡ (answer_by (key (got_after p (Call.add named q) (unless x d (add_result s d named q)).0 j)) (unless x d (add_result s d named q)).0, view p (got_after p (Call.add named q) (unless x d (add_result s d named q)).0 j) (unless x d (add_result s d named q)).1)
-    go none r l = rw (early_seen p j s d q ∙ sym (add_early s d named q (ap late_no r)) ∙ r) (rw e (
+    go None r l = rw (early_seen p j s d q ∙ sym (add_early s d named q (ap late_no r)) ∙ r) (rw e (
         let same : one_more s q (view p j d) ≡ view p (t ∷ j) (admitted s t q d') =
         ap (one_more s q) (sym (maybe_reserved_hidden p j s d named))
         ∙ admitted_seen p j s t q d' e (ap (λ o. times t (tois o)) (reserved_objects s d named) ∙ fresh_toi s d named u (admissible s d named q r).is_loose) in
         λ i. (Answer.number (sym (own_key t j) i), same i)))
-    go (some n) r l = rw (early_seen p j s d q ∙ sym (add_early s d named q (ap late_no r ∙ l)) ∙ r)
+    go (Some n) r l = rw (early_seen p j s d q ∙ sym (add_early s d named q (ap late_no r ∙ l)) ∙ r)
 
 -- a run of the priority's session
 packet_answer : (f : ℕ → ℕ) (k : Option Packet) → Answer.output (over (packet_by f) k) ≡ answer_by f (Answer.output k)
-packet_answer f none = refl
-packet_answer f (some k) = refl
+packet_answer f None = refl
+packet_answer f (Some k) = refl
 
 sends : (p r : ℕ) (j : List ℕ) (h : Option Hand) → eqb r p ≡ true → HeldFits p j r h → Sends p h
-sends p r j none e v = tt
-sends p r j (some h) e v = ap (λ n. eqb n p) v.0 ∙ e
+sends p r j None e v = tt
+sends p r j (Some h) e v = ap (λ n. eqb n p) v.0 ∙ e
 
 see_mine : (p : ℕ) (f : ℕ → ℕ) (r : ℕ) (h : Option Hand) → eqb r p ≡ true
     → see p f (record { priority = r; hand = h }) ≡ record { priority = r; hand = over (retag_held f) h }
-see_mine p f r h e = λ i. record { priority = r; hand = (when e i then over (retag_held f) h else none) }
+see_mine p f r h e = λ i. record { priority = r; hand = (when e i then over (retag_held f) h else None) }
 
-ran_shown : (p : ℕ) (j : List ℕ) (s : Setup) (now i : ℕ) (d : Desk) (x : Session) → at d.sessions i ≡ some x → Known p j d → eqb x.priority p ≡ true
+ran_shown : (p : ℕ) (j : List ℕ) (s : Setup) (now i : ℕ) (d : Desk) (x : Session) → at d.sessions i ≡ Some x → Known p j d → eqb x.priority p ≡ true
     → ran s now i (view p j d) (see p (key j) x) ≡ (answer_by (key j) (ran s now i d x).0, view p j (ran s now i d x).1)
 unfolding ran moved fdt_queued
 ran_shown p j s now i d x a k e = λ z. (
@@ -538,7 +538,7 @@ ran_shown p j s now i d x a k e = λ z. (
         (file_run_seen p f s now (fdt_queued d) d.queue h v)
 
     turn : rr ≡ see_turn p f r
-    turn = ap (λ b. file_run s x.priority now (fdt_queued d) (seen p f d.queue) (when b then over (retag_held f) x.hand else none)) e
+    turn = ap (λ b. file_run s x.priority now (fdt_queued d) (seen p f d.queue) (when b then over (retag_held f) x.hand else None)) e
         ∙ at_p x.priority (eqb-true x.priority p e) x.hand (sends p x.priority j x.hand e fits)
 
     answer : Answer.output rr.packet ≡ answer_by f (Answer.output r.packet)
@@ -550,7 +550,7 @@ ran_shown p j s now i d x a k e = λ z. (
         ∙ sym (map_set (see p f) d.sessions i (record { priority = x.priority; hand = r.hand }))
 
 -- a run of another's
-ran_hidden : (p : ℕ) (j : List ℕ) (s : Setup) (now i : ℕ) (d : Desk) (x : Session) → at d.sessions i ≡ some x → Known p j d → eqb x.priority p ≡ false
+ran_hidden : (p : ℕ) (j : List ℕ) (s : Setup) (now i : ℕ) (d : Desk) (x : Session) → at d.sessions i ≡ Some x → Known p j d → eqb x.priority p ≡ false
     → view p j (ran s now i d x).1 ≡ view p j d
 unfolding ran moved
 ran_hidden p j s now i d x a k e = λ z. record {
@@ -563,7 +563,7 @@ ran_hidden p j s now i d x a k e = λ z. record {
       (λ w. record { priority = x.priority; hand = (both (file_run s x.priority now (fdt_queued d) d.queue x.hand).hand x.hand w) }) z;
 }
   where
-    both : (g h : Option Hand) → (when eqb x.priority p then over (retag_held (key j)) g else none) ≡ (when eqb x.priority p then over (retag_held (key j)) h else none)
+    both : (g h : Option Hand) → (when eqb x.priority p then over (retag_held (key j)) g else None) ≡ (when eqb x.priority p then over (retag_held (key j)) h else None)
     both g h = rw e
 
 -- an FDT run, as it is seen
@@ -576,13 +576,13 @@ fdt_seen p j d r k = elim r.taken
 
 -- a packet with an id
 abbrev FdtPacket : Option Packet → Type 0
-FdtPacket none = Unit {0}
-FdtPacket (some k) = given k.id ≡ true
+FdtPacket None = Unit {0}
+FdtPacket (Some k) = given k.id ≡ true
 
 -- FDT packets have an id, so their answers stay
 fdt_answer : (f : ℕ → ℕ) (b : Bool) (k : Option Packet) → FdtPacket k → Answer.fdt_output b k ≡ answer_by f (Answer.fdt_output b k)
-fdt_answer f b none u = refl
-fdt_answer f b (some k) u = λ i. Answer.fdt_output b (some record { id = k.id; toi = (when sym u i then k.toi else f k.toi); symbol = k.symbol })
+fdt_answer f b None u = refl
+fdt_answer f b (Some k) u = λ i. Answer.fdt_output b (Some record { id = k.id; toi = (when sym u i then k.toi else f k.toi); symbol = k.symbol })
 
 fdt_run_packet : (s : Setup) (now : ℕ) (draft : Option Part) (f : Fdt) → FdtPacket (fdt_run s now draft f).packet
 unfolding fdt_sent
@@ -599,18 +599,18 @@ unfolding step about numbered moved
 hidden p j s d Call.reserve k e = go (reserve_refusal d)
   where
     go : (x : Option Refusal) → view p j (unless x d (Answer.number d.next, reserved s d)).1 ≡ view p j d
-    go none = reserved_hidden p j s d
-    go (some n) = refl
+    go None = reserved_hidden p j s d
+    go (Some n) = refl
 hidden p j s d (Call.release t) k e = go (release_refusal d t)
   where
     go : (x : Option Refusal) → view p j (unless x d (Answer.done, numbered d d.next (unloosed t d.loose))).1 ≡ view p j d
-    go none = refl
-    go (some n) = refl
+    go None = refl
+    go (Some n) = refl
 hidden p j s d (Call.add named q) k e = go (add_refusal s d named q)
   where
     go : (x : Option Refusal) → view p (got_after p (Call.add named q) (unless x d (add_result s d named q)).0 j) (unless x d (add_result s d named q)).1 ≡ view p j d
-    go none = rw e (admitted_hidden p j s (toi_for d named) q (when given named then d else reserved s d) e ∙ maybe_reserved_hidden p j s d named)
-    go (some n) = refl
+    go None = rw e (admitted_hidden p j s (toi_for d named) q (when given named then d else reserved s d) e ∙ maybe_reserved_hidden p j s d named)
+    go (Some n) = refl
 hidden p j s d (Call.touch t x) k e = touched_hidden p j d t x k e
 hidden p j s d (Call.ask q) k e = refl
 hidden p j s d Call.complete k e = absurd (true≢false e)
@@ -619,8 +619,8 @@ hidden p j s d (Call.run_fdt now draft) k e = absurd (true≢false e)
 hidden p j s d (Call.run_file i now) k e = go (at d.sessions i) refl e
   where
     go : (x : Option Session) → at d.sessions i ≡ x → maybe false (λ (x : Session). eqb x.priority p) x ≡ false → view p j (maybe (Answer.refused Because.NoSession, d) (ran s now i d) x).1 ≡ view p j d
-    go none a e = refl
-    go (some x) a e = ran_hidden p j s now i d x a k e
+    go None a e = refl
+    go (Some x) a e = ran_hidden p j s now i d x a k e
 
 -- a question about the priority is answered as on its own desk
 answer_seen : (p : ℕ) (j : List ℕ) (s : Setup) (d : Desk) (q : Question) → Unique s d → Known p j d → about_question p d q ≡ true
@@ -642,8 +642,8 @@ shown p j s d (Call.publish now c) u k e h = go (publish_refusal s d.fdt c)
   where
     go : (x : Option Refusal) → unless x (view p j d) (Answer.done, all_published (with_fdt (view p j d) (fdt_published now c d.fdt)))
         ≡ (answer_by (key j) (unless x d (Answer.done, all_published (with_fdt d (fdt_published now c d.fdt)))).0, view p j (unless x d (Answer.done, all_published (with_fdt d (fdt_published now c d.fdt)))).1)
-    go none = λ i. (Answer.done, published_seen p j (with_fdt d (fdt_published now c d.fdt)) (record { waiting = k.waiting; serving = k.serving }) i)
-    go (some n) = refl
+    go None = λ i. (Answer.done, published_seen p j (with_fdt d (fdt_published now c d.fdt)) (record { waiting = k.waiting; serving = k.serving }) i)
+    go (Some n) = refl
 shown p j s d (Call.run_fdt now draft) u k e h = go (draft_refusal s d.fdt draft) (fdt_run s now (draft_of draft) d.fdt) (fdt_run_packet s now (draft_of draft) d.fdt)
   where
     go : (x : Option Refusal) (r : FdtTurn) → FdtPacket r.packet
@@ -652,15 +652,15 @@ shown p j s d (Call.run_fdt now draft) u k e h = go (draft_refusal s d.fdt draft
           answer_by (key j) (unless x d (Answer.fdt_output r.taken r.packet, when r.taken then all_published (with_fdt d r.fdt) else with_fdt d r.fdt)).0,
           view p j (unless x d (Answer.fdt_output r.taken r.packet, when r.taken then all_published (with_fdt d r.fdt) else with_fdt d r.fdt)).1,
         )
-    go none r v = λ i. (fdt_answer (key j) r.taken r.packet v i, fdt_seen p j d r k i)
-    go (some n) r v = refl
+    go None r v = λ i. (fdt_answer (key j) r.taken r.packet v i, fdt_seen p j d r k i)
+    go (Some n) r v = refl
 shown p j s d (Call.run_file i now) u k e h = rw (at_map (see p (key j)) d.sessions i) (go (at d.sessions i) refl e)
   where
     go : (x : Option Session) → at d.sessions i ≡ x → maybe false (λ (x : Session). eqb x.priority p) x ≡ true
         → maybe (Answer.refused Because.NoSession, view p j d) (ran s now i (view p j d)) (over (see p (key j)) x)
         ≡ (answer_by (key j) (maybe (Answer.refused Because.NoSession, d) (ran s now i d) x).0, view p j (maybe (Answer.refused Because.NoSession, d) (ran s now i d) x).1)
-    go none a e = absurd (false≢true e)
-    go (some x) a e = ran_shown p j s now i d x a k e
+    go None a e = absurd (false≢true e)
+    go (Some x) a e = ran_shown p j s now i d x a k e
 
 -- so a run's answers to the priority are those of its calls alone
 pub answered_alone : (s : Setup) (p : ℕ) → 16 ≤ s.width → (j : List ℕ) (d : Desk) (l : List Call) → Unique s d → Known p j d → smooth s p d l ≡ true
@@ -687,12 +687,12 @@ alike s p w l m hl hm e = alone l hl ∙ ap (own_run s (view p [] (opening s))) 
     alone l h = answered_alone s p w [] (opening s) l (unique_opening s w) (known_opening p s) h
 
 packet_own : (p : ℕ) (j : List ℕ) (r : ℕ) (k : Option Packet) → eqb r p ≡ true → PacketNoted p j r k → PacketOf j k
-packet_own p j r none e u = tt
-packet_own p j r (some k) e u = λ z. u e
+packet_own p j r None e u = tt
+packet_own p j r (Some k) e u = λ z. u e
 
 fdt_own : (j : List ℕ) (k : Option Packet) → FdtPacket k → PacketOf j k
-fdt_own j none u = tt
-fdt_own j (some k) u = λ z. absurd (true≢false (sym u ∙ z))
+fdt_own j None u = tt
+fdt_own j (Some k) u = λ z. absurd (true≢false (sym u ∙ z))
 
 -- a question names no packet
 answer_own : (j : List ℕ) (d : Desk) (q : Question) → NumberOf j (answer_to d q)
@@ -707,29 +707,29 @@ number_step p j s d (Call.release t) k e = absurd (false≢true e)
 number_step p j s d (Call.add named q) k e = go (add_refusal s d named q)
   where
     go : (x : Option Refusal) → NumberOf (got_after p (Call.add named q) (unless x d (add_result s d named q)).0 j) (unless x d (add_result s d named q)).0
-    go none = tt
-    go (some n) = tt
+    go None = tt
+    go (Some n) = tt
 number_step p j s d (Call.touch t x) k e = tt
 number_step p j s d (Call.ask q) k e = answer_own j d q
 number_step p j s d Call.complete k e = tt
 number_step p j s d (Call.publish now c) k e = go (publish_refusal s d.fdt c)
   where
     go : (x : Option Refusal) → NumberOf j (unless x d (Answer.done, all_published (with_fdt d (fdt_published now c d.fdt)))).0
-    go none = tt
-    go (some n) = tt
+    go None = tt
+    go (Some n) = tt
 number_step p j s d (Call.run_fdt now draft) k e = go (draft_refusal s d.fdt draft)
   where
     r : FdtTurn
     r = fdt_run s now (draft_of draft) d.fdt
 
     go : (x : Option Refusal) → NumberOf j (unless x d (Answer.fdt_output r.taken r.packet, when r.taken then all_published (with_fdt d r.fdt) else with_fdt d r.fdt)).0
-    go none = fdt_own j r.packet (fdt_run_packet s now (draft_of draft) d.fdt)
-    go (some n) = tt
+    go None = fdt_own j r.packet (fdt_run_packet s now (draft_of draft) d.fdt)
+    go (Some n) = tt
 number_step p j s d (Call.run_file i now) k e = go (at d.sessions i) refl e
   where
     go : (x : Option Session) → at d.sessions i ≡ x → maybe false (λ (x : Session). eqb x.priority p) x ≡ true → NumberOf j (maybe (Answer.refused Because.NoSession, d) (ran s now i d) x).0
-    go none a e = tt
-    go (some x) a e = packet_own p j x.priority (file_run s x.priority now (fdt_queued d) d.queue x.hand).packet e
+    go None a e = tt
+    go (Some x) a e = packet_own p j x.priority (file_run s x.priority now (fdt_queued d) d.queue x.hand).packet e
         (file_run_known p j x.priority s now (fdt_queued d) d.queue x.hand k.waiting (each_at (Fits p j) d.sessions i x a k.serving)).2
 
 -- object numbers in the answers are those that the priority's admissions got

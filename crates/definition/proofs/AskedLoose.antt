@@ -1,7 +1,7 @@
 -- A call by number that asks after a loose reservation answers no or none, and changes nothing.
 use mathlib.Core.Path.{◌≡◌, refl, ap, subst}
 use mathlib.Core.Bool.{Bool, true, false, not}
-use mathlib.Core.Option.{Option, none, some}
+use Rattle.std.specs.Prelude.{Option, None, Some}
 use mathlib.Core.List.{List, [], ◌∷◌, ◌++◌, map}
 use Prim.Native.Nat.{ℕ}
 use Rattle.sizes.specs.Words.{maybe, given, find, has, Each}
@@ -15,7 +15,7 @@ use Rattle.definition.proofs.Numbers.{Unique}
 use Rattle.definition.proofs.ApartLaws.{HeldHas, fresh_toi, none_has, listed_of, each_sent}
 use Rattle.definition.proofs.Touches.{collect_still}
 
-find_none : {A : Type 0} (ok : A → Bool) (l : List A) → Each (λ a. ok a ≡ false) l → find ok l ≡ none
+find_none : {A : Type 0} (ok : A → Bool) (l : List A) → Each (λ a. ok a ≡ false) l → find ok l ≡ None
 find_none ok [] u = refl
 find_none ok (a ∷ l) u = rw u.0 (find_none ok l u.1)
 
@@ -42,7 +42,7 @@ module _ (d : Desk) (t : ℕ) (free : Each (λ o. is t o ≡ false) (objects d))
   unfolding objects
   hands_free = each_right (λ o. is t o ≡ false) d.queue (in_hands d.sessions) free
 
-  unlisted_free : listed_as d t ≡ none
+  unlisted_free : listed_as d t ≡ None
   unfolding listed_as
   unlisted_free = find_none (is t) (d.queue ++ listed_in_hands d.sessions)
       (each_append (λ o. is t o ≡ false) d.queue (listed_in_hands d.sessions) waits_free (listed_of (λ o. is t o ≡ false) d.sessions hands_free))
@@ -54,27 +54,27 @@ module _ (d : Desk) (t : ℕ) (free : Each (λ o. is t o ≡ false) (objects d))
     next = d.next;
     loose = d.loose;
     fdt = d.fdt;
-    queue = collect_still (touched_waiting t x) d.queue (each_imp (λ o. is t o ≡ false) (λ o. touched_waiting t x o ≡ some o) (λ o e. rw e) d.queue waits_free) i;
+    queue = collect_still (touched_waiting t x) d.queue (each_imp (λ o. is t o ≡ false) (λ o. touched_waiting t x o ≡ Some o) (λ o e. rw e) d.queue waits_free) i;
     sessions = map_same (in_hand (touched_hand t x)) d.sessions
         (each_imp (λ (y : Session). HeldHas (λ o. is t o ≡ false) y.hand) (λ y. in_hand (touched_hand t x) y ≡ y)
         (λ y u i. record { priority = y.priority; hand = same y.hand u i }) d.sessions (each_sent (λ o. is t o ≡ false) d.sessions hands_free)) i;
   }
     where
-      same : (h : Option Hand) → HeldHas (λ o. is t o ≡ false) h → maybe none (λ h. some (touched_hand t x h)) h ≡ h
-      same none u = refl
-      same (some h) u = rw u
+      same : (h : Option Hand) → HeldHas (λ o. is t o ≡ false) h → maybe None (λ h. Some (touched_hand t x h)) h ≡ h
+      same None u = refl
+      same (Some h) u = rw u
 
 -- a loose number is no object's
 loose_free : (s : Setup) (d : Desk) (t : ℕ) → Unique s d → has t d.loose ≡ true → Each (λ o. is t o ≡ false) (objects d)
 unfolding not_loose toi_for
-loose_free s d t u h = none_has t (objects d) (fresh_toi s d (some t) u (ap not h))
+loose_free s d t u h = none_has t (objects d) (fresh_toi s d (Some t) u (ap not h))
 
 -- a question after a number that no object has is answered no or none
-said_nothing : (d : Desk) (q : Question) (t : ℕ) → asked_after q ≡ some t → Each (λ o. is t o ≡ false) (objects d) → nothing_in (answer_to d q) ≡ true
+said_nothing : (d : Desk) (q : Question) (t : ℕ) → asked_after q ≡ Some t → Each (λ o. is t o ≡ false) (objects d) → nothing_in (answer_to d q) ≡ true
 said_nothing d (Question.listed v) t e free = let z : v ≡ t = cc in rw z (ap (λ (x : Option Object). not (given x)) (unlisted_free d t free))
-said_nothing d (Question.transfers v) t e free = let z : v ≡ t = cc in rw z (ap (λ x. not (given (maybe none (λ (o : Object). some o.life.total) x))) (unlisted_free d t free))
+said_nothing d (Question.transfers v) t e free = let z : v ≡ t = cc in rw z (ap (λ x. not (given (maybe None (λ (o : Object). Some o.life.total) x))) (unlisted_free d t free))
 
-pub asked_loose : (s : Setup) (d : Desk) (c : Call) (t : ℕ) → Unique s d → asked c ≡ some t → has t d.loose ≡ true → (nothing_in (step s d c).0 ≡ true) × ((step s d c).1 ≡ d)
+pub asked_loose : (s : Setup) (d : Desk) (c : Call) (t : ℕ) → Unique s d → asked c ≡ Some t → has t d.loose ≡ true → (nothing_in (step s d c).0 ≡ true) × ((step s d c).1 ≡ d)
 unfolding step
 asked_loose s d (Call.touch v x) t u e h = let free = loose_free s d v u (let z : t ≡ v = cc in subst (λ n. has n d.loose ≡ true) z h) in
     (ap (λ (x : Option Object). not (given x)) (unlisted_free d v free), touched_free d v free x)

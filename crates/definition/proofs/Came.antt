@@ -1,6 +1,6 @@
 -- Every object is one that an add of the run admitted: it has the number, priority, part, sizes and plan that it got there.
 use mathlib.Core.Path.{◌≡◌, refl, sym, subst}
-use mathlib.Core.Option.{Option, none, some}
+use Rattle.std.specs.Prelude.{Option, None, Some}
 use mathlib.Core.List.{List, [], ◌∷◌}
 use Prim.Native.Nat.{ℕ}
 use Rattle.sizes.specs.Words.{when◌then◌else◌, maybe, Each}
@@ -23,10 +23,10 @@ among_grown : (s : Setup) (d : Desk) (c : Call) (j : List Object) (o : Object) �
 among_grown s d c j o u = go (adding c)
   where
     go : (x : Option (Option ℕ × Request)) → Among (maybe j (λ y. when accepted (step s d c).0 then made s (toi_for d y.0) y.1 ∷ j else j) x) o
-    go none = u
-    go (some y) = either (λ l. Among l o) (accepted (step s d c).0) (made s (toi_for d y.0) y.1 ∷ j) j (later u) u
+    go None = u
+    go (Some y) = either (λ l. Among l o) (accepted (step s d c).0) (made s (toi_for d y.0) y.1 ∷ j) j (later u) u
 
-among_new : (s : Setup) (d : Desk) (j : List Object) (named : Option ℕ) (q : Request) → add_refusal s d named q ≡ none → Among (grown s d (Call.add named q) j) (made s (toi_for d named) q)
+among_new : (s : Setup) (d : Desk) (j : List Object) (named : Option ℕ) (q : Request) → add_refusal s d named q ≡ None → Among (grown s d (Call.add named q) j) (made s (toi_for d named) q)
 unfolding step
 among_new s d j named q h = rw h (this refl)
 

@@ -1,7 +1,7 @@
 -- What holds of each object as it is admitted, and does not read its life, holds of every object at every moment. Used for sound E and B, and so: a run's rounds are enough.
 use mathlib.Core.Path.{◌≡◌, refl, subst, sym}
 use mathlib.Core.Bool.{Bool, true, false, not, ◌&&◌}
-use mathlib.Core.Option.{Option, none, some}
+use Rattle.std.specs.Prelude.{Option, None, Some}
 use mathlib.Core.List.{List, [], ◌∷◌, ◌++◌, map}
 use Prim.Native.Nat.{ℕ, ◌≤◌}
 use lib.Dec.{eqb}
@@ -24,8 +24,8 @@ use Rattle.definition.proofs.Runs.{run_goes}
 
 -- what a session holds
 abbrev pub InHand : (Object → Type 0) → Option Hand → Type 0
-InHand P none = Unit {0}
-InHand P (some h) = P h.object
+InHand P None = Unit {0}
+InHand P (Some h) = P h.object
 
 pub record Everywhere (P : Object → Type 0) (d : Desk) : Type 0 where
   pub waiting : Each P d.queue
@@ -55,9 +55,9 @@ module _ (P : Object → Type 0) (stable : (x : Life) (o : Object) → P o → P
   unfolding in_hand
   in_hand_all g k x u = go x.hand u
     where
-      go : (h : Option Hand) → InHand P h → InHand P (maybe none (λ y. some (g y)) h)
-      go none v = tt
-      go (some h) v = k h v
+      go : (h : Option Hand) → InHand P h → InHand P (maybe None (λ y. Some (g y)) h)
+      go None v = tt
+      go (Some h) v = k h v
 
   marked_all : (d : Desk) → Everywhere P d → Everywhere P (all_published d)
   unfolding all_published moved marked marked_hand
@@ -79,8 +79,8 @@ module _ (P : Object → Type 0) (stable : (x : Life) (o : Object) → P o → P
   reserved_all s d u = record { waiting = u.waiting; serving = u.serving }
 
   maybe_all : (s : Setup) (d : Desk) (named : Option ℕ) → Everywhere P d → Everywhere P (when given named then d else reserved s d)
-  maybe_all s d none u = reserved_all s d u
-  maybe_all s d (some t) u = u
+  maybe_all s d None u = reserved_all s d u
+  maybe_all s d (Some t) u = u
 
   admitted_all : (s : Setup) (t : ℕ) (q : Request) (d : Desk) → P (made s t q) → Everywhere P d → Everywhere P (admitted s t q d)
   unfolding admitted unloosed
@@ -91,24 +91,24 @@ module _ (P : Object → Type 0) (stable : (x : Life) (o : Object) → P o → P
 
   -- every call keeps it, if what an add admits has it
   pub everywhere_step : (s : Setup) (d : Desk) (c : Call)
-      → ((named : Option ℕ) (q : Request) → c ≡ Call.add named q → add_refusal s d named q ≡ none → P (made s (toi_for d named) q))
+      → ((named : Option ℕ) (q : Request) → c ≡ Call.add named q → add_refusal s d named q ≡ None → P (made s (toi_for d named) q))
       → Everywhere P d → Everywhere P (step s d c).1
   unfolding step numbered moved touched ran unloosed fdt_ran fdt_queued
   everywhere_step s d Call.reserve k u = go (reserve_refusal d)
     where
       go : (x : Option Refusal) → Everywhere P (unless x d (Answer.number d.next, reserved s d)).1
-      go none = reserved_all s d u
-      go (some n) = u
+      go None = reserved_all s d u
+      go (Some n) = u
   everywhere_step s d (Call.release t) k u = go (release_refusal d t)
     where
       go : (x : Option Refusal) → Everywhere P (unless x d (Answer.done, numbered d d.next (keep (λ v. not (eqb v t)) d.loose))).1
-      go none = record { waiting = u.waiting; serving = u.serving }
-      go (some n) = u
+      go None = record { waiting = u.waiting; serving = u.serving }
+      go (Some n) = u
   everywhere_step s d (Call.add named q) k u = go (add_refusal s d named q) refl
     where
       go : (x : Option Refusal) → add_refusal s d named q ≡ x → Everywhere P (unless x d (Answer.number (toi_for d named), admitted s (toi_for d named) q (when given named then d else reserved s d))).1
-      go none e = admitted_all s (toi_for d named) q (when given named then d else reserved s d) (k named q refl e) (maybe_all s d named u)
-      go (some n) e = u
+      go None e = admitted_all s (toi_for d named) q (when given named then d else reserved s d) (k named q refl e) (maybe_all s d named u)
+      go (Some n) e = u
   everywhere_step s d (Call.touch t x) k u = record {
     waiting = each_touched (touched_waiting t x) (touched_kept t x) P stable d.queue u.waiting;
     serving = each_map (λ (x : Session). InHand P x.hand) (in_hand (touched_hand t x)) (in_hand_all (touched_hand t x) (touched_all t x)) d.sessions u.serving;
@@ -118,19 +118,19 @@ module _ (P : Object → Type 0) (stable : (x : Life) (o : Object) → P o → P
   everywhere_step s d (Call.publish now c) k u = go (publish_refusal s d.fdt c)
     where
       go : (x : Option Refusal) → Everywhere P (unless x d (Answer.done, all_published (with_fdt d (fdt_published now c d.fdt)))).1
-      go none = marked_all (with_fdt d (fdt_published now c d.fdt)) (fdt_all d (fdt_published now c d.fdt) u)
-      go (some n) = u
+      go None = marked_all (with_fdt d (fdt_published now c d.fdt)) (fdt_all d (fdt_published now c d.fdt) u)
+      go (Some n) = u
   everywhere_step s d (Call.run_fdt now draft) k u = go (draft_refusal s d.fdt draft) (fdt_run s now (draft_of draft) d.fdt)
     where
       go : (x : Option Refusal) (r : FdtTurn) → Everywhere P (unless x d (Answer.fdt_output r.taken r.packet, when r.taken then all_published (with_fdt d r.fdt) else with_fdt d r.fdt)).1
-      go none r = elim r.taken as (λ t. Everywhere P (when t then all_published (with_fdt d r.fdt) else with_fdt d r.fdt))
+      go None r = elim r.taken as (λ t. Everywhere P (when t then all_published (with_fdt d r.fdt) else with_fdt d r.fdt))
           [ true ↦ marked_all (with_fdt d r.fdt) (fdt_all d r.fdt u) | false ↦ fdt_all d r.fdt u ]
-      go (some n) r = u
+      go (Some n) r = u
   everywhere_step s d (Call.run_file i now) k u = go (at d.sessions i) refl
     where
       go : (x : Option Session) → at d.sessions i ≡ x → Everywhere P (maybe (Answer.refused Because.NoSession, d) (ran s now i d) x).1
-      go none e = u
-      go (some x) e =
+      go None e = u
+      go (Some x) e =
           let z = file_run_all s x.priority now (not (eqb (length d.fdt.state.waiting) 0)) d.queue x.hand u.waiting (each_at (λ (x : Session). InHand P x.hand) d.sessions i x e u.serving) in
           record { waiting = z.0; serving = each_set (λ (x : Session). InHand P x.hand) d.sessions i _ u.serving z.1 }
 
@@ -141,18 +141,18 @@ module _ (P : Object → Type 0) where
   each_hands [] u = tt
   each_hands (x ∷ l) u = one x.hand u.0 (each_hands l u.1)
     where
-      one : (h : Option Hand) → InHand P h → Each P (in_hands l) → Each P (maybe (in_hands l) (λ b. b ∷ in_hands l) (maybe none (λ (h : Hand). some h.object) h))
-      one none v r = r
-      one (some h) v r = (v, r)
+      one : (h : Option Hand) → InHand P h → Each P (in_hands l) → Each P (maybe (in_hands l) (λ b. b ∷ in_hands l) (maybe None (λ (h : Hand). Some h.object) h))
+      one None v r = r
+      one (Some h) v r = (v, r)
 
   hands_each : (l : List Session) → Each P (in_hands l) → Each (λ (x : Session). InHand P x.hand) l
   unfolding in_hands
   hands_each [] u = tt
   hands_each (x ∷ l) u = let r = one x.hand u in (r.0, hands_each l r.1)
     where
-      one : (h : Option Hand) → Each P (maybe (in_hands l) (λ b. b ∷ in_hands l) (maybe none (λ (h : Hand). some h.object) h)) → InHand P h × Each P (in_hands l)
-      one none v = (tt, v)
-      one (some h) v = v
+      one : (h : Option Hand) → Each P (maybe (in_hands l) (λ b. b ∷ in_hands l) (maybe None (λ (h : Hand). Some h.object) h)) → InHand P h × Each P (in_hands l)
+      one None v = (tt, v)
+      one (Some h) v = v
 
   pub each_everywhere : (d : Desk) → Each P (objects d) → Everywhere P d
   unfolding objects
@@ -166,7 +166,7 @@ module _ (P : Object → Type 0) where
   everywhere_each d u = each_append P d.queue (in_hands d.sessions) u.waiting (each_hands d.sessions u.serving)
 
   pub each_step : ((x : Life) (o : Object) → P o → P (living x o)) → (s : Setup) (d : Desk) (c : Call)
-      → ((named : Option ℕ) (q : Request) → c ≡ Call.add named q → add_refusal s d named q ≡ none → P (made s (toi_for d named) q))
+      → ((named : Option ℕ) (q : Request) → c ≡ Call.add named q → add_refusal s d named q ≡ None → P (made s (toi_for d named) q))
       → Each P (objects d) → Each P (objects (step s d c).1)
   each_step stable s d c k u = everywhere_each (step s d c).1 (everywhere_step P stable s d c k (each_everywhere d u))
 
@@ -178,7 +178,7 @@ abbrev pub Sized : Object → Type 0
 Sized o = (1 ≤ o.sizes.e) × (1 ≤ o.sizes.b)
 
 -- what an add admits has sound E and B
-added_sized : (s : Setup) (d : Desk) (named : Option ℕ) (q : Request) → add_refusal s d named q ≡ none → Sized (made s (toi_for d named) q)
+added_sized : (s : Setup) (d : Desk) (named : Option ℕ) (q : Request) → add_refusal s d named q ≡ None → Sized (made s (toi_for d named) q)
 unfolding made
 added_sized s d named q h = let r = (blocks_told (own_sizes s q) q.part.size (blocks_fit s d named q h)).sizes in (r.symbol.0, r.block.0)
 
@@ -195,6 +195,6 @@ pub sized_opening : (s : Setup) → Everywhere Sized (opening s)
 unfolding opening
 sized_opening s = record { waiting = tt; serving = empty s.priorities }
   where
-    empty : (l : List ℕ) → Each (λ (x : Session). InHand Sized x.hand) (map (λ p. record { priority = p; hand = none }) l)
+    empty : (l : List ℕ) → Each (λ (x : Session). InHand Sized x.hand) (map (λ p. record { priority = p; hand = None }) l)
     empty [] = tt
     empty (p ∷ l) = (tt, empty l)

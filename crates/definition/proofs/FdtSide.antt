@@ -1,7 +1,7 @@
 -- The FDT side: what waits and what is current keep apart and inside the store, and what is in hand is the current one.
 use mathlib.Core.Path.{◌≡◌, refl, sym, ◌∙◌, ap, subst}
 use mathlib.Core.Bool.{Bool, true, false, ◌&&◌, ◌||◌}
-use mathlib.Core.Option.{Option, none, some}
+use Rattle.std.specs.Prelude.{Option, None, Some}
 use mathlib.Core.List.{List, [], ◌∷◌}
 use Prim.Native.Nat.{ℕ, suc, ◌+◌, ◌≤◌}
 use native.Mathlib.Omega.{arith}
@@ -43,24 +43,24 @@ module _ (w : Part → ℕ) where
   parts_total : (f : FdtState) → total w (fdt_parts f) ≡ waiting_total f.waiting + current_weight f.current
   unfolding fdt_parts
   parts_total f =
-      let a = total_append w (collect (λ (i : Instance). some i.part) f.waiting) (maybe [] (λ (i : Instance). i.part ∷ []) f.current) in
+      let a = total_append w (collect (λ (i : Instance). Some i.part) f.waiting) (maybe [] (λ (i : Instance). i.part ∷ []) f.current) in
       let b = all f.waiting in
       let c = one f.current in omega arith
     where
-      all : (l : List Instance) → total w (collect (λ (i : Instance). some i.part) l) ≡ waiting_total l
+      all : (l : List Instance) → total w (collect (λ (i : Instance). Some i.part) l) ≡ waiting_total l
       all [] = refl
       all (i ∷ l) = ap (λ n. w i.part + n) (all l)
 
       one : (x : Option Instance) → total w (maybe [] (λ (i : Instance). i.part ∷ []) x) ≡ current_weight x
-      one none = refl
-      one (some i) = omega arith
+      one None = refl
+      one (Some i) = omega arith
 
   queued_total : (now : ℕ) (c : Part) (f : FdtState) → total w (fdt_parts (queued now c f)) ≡ total w (fdt_parts f) + w c
   unfolding queued
   queued_total now c f =
       let a = parts_total (queued now c f) in
       let b = parts_total f in
-      let i : Instance = record { id = f.next_id; part = c; life = unborn true none; transferring = false } in
+      let i : Instance = record { id = f.next_id; part = c; life = unborn true None; transferring = false } in
       let d = total_append (λ (i : Instance). w i.part) f.waiting (i ∷ []) in omega arith
 
 -- ---- the steps of a run
@@ -80,24 +80,24 @@ queued_current now c f = refl
 -- what taking the front comes to
 data Front (f : FdtState) : FdtState → Type 0 where
   no_front : f.waiting ≡ [] → Front f f
-  a_front : (i : Instance) (rest : List Instance) → f.waiting ≡ i ∷ rest → Front f (record { next_id = f.next_id; last = f.last; waiting = rest; current = some i })
+  a_front : (i : Instance) (rest : List Instance) → f.waiting ≡ i ∷ rest → Front f (record { next_id = f.next_id; last = f.last; waiting = rest; current = Some i })
 
 front_cases : (f : FdtState) → Front f (front_taken f)
 unfolding front_taken
 front_cases f = go f.waiting refl
   where
-    go : (x : List Instance) → f.waiting ≡ x → Front f (elim x [ [] ↦ f | i ∷ rest ↦ record { next_id = f.next_id; last = f.last; waiting = rest; current = some i } ])
+    go : (x : List Instance) → f.waiting ≡ x → Front f (elim x [ [] ↦ f | i ∷ rest ↦ record { next_id = f.next_id; last = f.last; waiting = rest; current = Some i } ])
     go [] e = no_front e
     go (i ∷ rest) e = a_front i rest e
 
 -- nothing in hand, and nothing transferring
-idle_current : (x : Option Instance) → Matched x none → maybe false (λ (i : Instance). i.transferring) x ≡ false
-idle_current none nothing = refl
-idle_current (some i) (resting e) = e
+idle_current : (x : Option Instance) → Matched x None → maybe false (λ (i : Instance). i.transferring) x ≡ false
+idle_current None nothing = refl
+idle_current (Some i) (resting e) = e
 
-rehand : (x : Option Instance) (h k : FdtHand) → k.id ≡ h.id → k.part ≡ h.part → Matched x (some h) → Matched x (some k)
-rehand none h k a b m = elim m [ ]
-rehand (some i) h k a b (sending t d e) = sending t (a ∙ d) (b ∙ e)
+rehand : (x : Option Instance) (h k : FdtHand) → k.id ≡ h.id → k.part ≡ h.part → Matched x (Some h) → Matched x (Some k)
+rehand None h k a b m = elim m [ ]
+rehand (Some i) h k a b (sending t d e) = sending t (a ∙ d) (b ∙ e)
 
 -- the sum stays within b with what the draft may still bring
 module _ (s : Setup) (now : ℕ) (w : Part → ℕ) (b : ℕ) where
@@ -119,12 +119,12 @@ module _ (s : Setup) (now : ℕ) (w : Part → ℕ) (b : ℕ) where
     weight : total w (fdt_parts g) + due draft t' ≤ total w (fdt_parts f) + due draft t
 
   asked : (draft : Option Part) (t n : Bool) (f : FdtState)
-      → Asked draft t (t || (n && given (when t then none else draft))) f (when n then maybe f (λ c. queued now c f) (when t then none else draft) else f)
+      → Asked draft t (t || (n && given (when t then None else draft))) f (when n then maybe f (λ c. queued now c f) (when t then None else draft) else f)
   asked draft true true f = record { longer = omega arith; idle = λ u. u; same = refl; weight = omega arith }
   asked draft true false f = record { longer = omega arith; idle = λ u. u; same = refl; weight = omega arith }
   asked draft false false f = record { longer = omega arith; idle = λ u. u; same = refl; weight = omega arith }
-  asked none false true f = record { longer = omega arith; idle = λ u. u; same = refl; weight = omega arith }
-  asked (some c) false true f = record {
+  asked None false true f = record { longer = omega arith; idle = λ u. u; same = refl; weight = omega arith }
+  asked (Some c) false true f = record {
     longer = (let h = queued_length now c f in omega arith);
     idle = queued_idle now c f;
     same = queued_current now c f;
@@ -135,14 +135,14 @@ module _ (s : Setup) (now : ℕ) (w : Part → ℕ) (b : ℕ) where
   record Resting (draft : Option Part) (t : Bool) (f : FdtState) : Type 0 where
     few : length f.waiting ≤ waiting_fdts
     idle : Each Idle f.waiting
-    matched : Matched f.current none
+    matched : Matched f.current None
     weight : total w (fdt_parts f) + due draft t ≤ b
 
   fronted : (draft : Option Part) (t t' : Bool) (f g h : FdtState) → Asked draft t t' f g → Front g h → Resting draft t f → Resting draft t' h
   fronted draft t t' f g h a (no_front e) r = record {
     few = (let z = ap length e in omega arith);
     idle = a.idle r.idle;
-    matched = subst (λ x. Matched x none) (sym a.same) r.matched;
+    matched = subst (λ x. Matched x None) (sym a.same) r.matched;
     weight = (let x = a.weight in let y = r.weight in omega arith);
   }
   fronted draft t t' f g h a (a_front i rest e) r =
@@ -155,7 +155,7 @@ module _ (s : Setup) (now : ℕ) (w : Part → ℕ) (b : ℕ) where
             (let x = a.weight in
             let y = r.weight in
             let p = parts_total w g in
-            let q = parts_total w (record { next_id = g.next_id; last = g.last; waiting = rest; current = some i }) in
+            let q = parts_total w (record { next_id = g.next_id; last = g.last; waiting = rest; current = Some i }) in
             let z = ap (waiting_total w) e in omega arith);
       }
 
@@ -170,10 +170,10 @@ module _ (s : Setup) (now : ℕ) (w : Part → ℕ) (b : ℕ) where
       Held : Next → Type 0
       Held n = Going draft t (record { state = n.state; hand = fdt_begun n.starts })
 
-      stays : Held (record { taken = x; state = f; starts = none })
+      stays : Held (record { taken = x; state = f; starts = None })
       stays = record { few = r.few; idle = r.idle; matched = r.matched; window = tt; weight = r.weight }
 
-      starts : (i : Instance) → f.current ≡ some i → Held (record { taken = x; state = with_current f (transfer i); starts = some (transfer i) })
+      starts : (i : Instance) → f.current ≡ Some i → Held (record { taken = x; state = with_current f (transfer i); starts = Some (transfer i) })
       starts i e = record {
         few = r.few;
         idle = r.idle;
@@ -187,22 +187,22 @@ module _ (s : Setup) (now : ℕ) (w : Part → ℕ) (b : ℕ) where
       }
 
       go : (y : Option Instance) → f.current ≡ y
-          → Held (maybe (record { taken = x; state = f; starts = none }) (λ (i : Instance). when may_start (fdt_plan s) now i.life then record { taken = x; state = with_current f (transfer i); starts = some (transfer i) } else record { taken = x; state = f; starts = none }) y)
-      go none e = stays
-      go (some i) e = either Held (may_start (fdt_plan s) now i.life) _ _ (starts i e) stays
+          → Held (maybe (record { taken = x; state = f; starts = None }) (λ (i : Instance). when may_start (fdt_plan s) now i.life then record { taken = x; state = with_current f (transfer i); starts = Some (transfer i) } else record { taken = x; state = f; starts = None }) y)
+      go None e = stays
+      go (Some i) e = either Held (may_start (fdt_plan s) now i.life) _ _ (starts i e) stays
 
   -- asking for the next FDT
   abbrev offered : Option Part → Bool → Option Part
-  offered draft t = when t then none else draft
+  offered draft t = when t then None else draft
 
   start_taken : (x : Bool) (f : FdtState) → (start_current s now x f).taken ≡ x
   unfolding start_current
   start_taken x f = go f.current
     where
       go : (y : Option Instance)
-          → (maybe {B = Next} (record { taken = x; state = f; starts = none }) (λ (i : Instance). when may_start (fdt_plan s) now i.life then record { taken = x; state = with_current f (transfer i); starts = some (transfer i) } else record { taken = x; state = f; starts = none }) y).taken ≡ x
-      go none = refl
-      go (some i) = either (λ (n : Next). n.taken ≡ x) (may_start (fdt_plan s) now i.life) _ _ refl refl
+          → (maybe {B = Next} (record { taken = x; state = f; starts = None }) (λ (i : Instance). when may_start (fdt_plan s) now i.life then record { taken = x; state = with_current f (transfer i); starts = Some (transfer i) } else record { taken = x; state = f; starts = None }) y).taken ≡ x
+      go None = refl
+      go (Some i) = either (λ (n : Next). n.taken ≡ x) (may_start (fdt_plan s) now i.life) _ _ refl refl
 
   next_going : (draft : Option Part) (t : Bool) (f : FdtState) → Resting draft t f
       → (let n = next_fdt s now (offered draft t) f in Going draft (t || n.taken) (record { state = n.state; hand = fdt_begun n.starts }))
@@ -219,8 +219,8 @@ module _ (s : Setup) (now : ℕ) (w : Part → ℕ) (b : ℕ) where
     where
       go : (y : Option Instance) → f.state.current ≡ y
           → Resting draft t (maybe f.state (λ (i : Instance). with_current f.state (record { id = i.id; part = i.part; life = finished now i.life; transferring = false })) y)
-      go none e = record { few = g.few; idle = g.idle; matched = subst (λ x. Matched x none) (sym e) nothing; weight = g.weight }
-      go (some i) e = record {
+      go None e = record { few = g.few; idle = g.idle; matched = subst (λ x. Matched x None) (sym e) nothing; weight = g.weight }
+      go (Some i) e = record {
         few = g.few;
         idle = g.idle;
         matched = resting refl;
@@ -232,10 +232,10 @@ module _ (s : Setup) (now : ℕ) (w : Part → ℕ) (b : ℕ) where
       }
 
   -- with nothing in hand
-  at_rest : (draft : Option Part) (t : Bool) (f : Fdt) → f.hand ≡ none → Going draft t f → Resting draft t f.state
+  at_rest : (draft : Option Part) (t : Bool) (f : Fdt) → f.hand ≡ None → Going draft t f → Resting draft t f.state
   at_rest draft t f e g = record { few = g.few; idle = g.idle; matched = subst (Matched f.state.current) e g.matched; weight = g.weight }
 
-  from_rest : (draft : Option Part) (t : Bool) (f : FdtState) → Resting draft t f → Going draft t (record { state = f; hand = none })
+  from_rest : (draft : Option Part) (t : Bool) (f : FdtState) → Resting draft t f → Going draft t (record { state = f; hand = None })
   from_rest draft t f r = record { few = r.few; idle = r.idle; matched = r.matched; window = tt; weight = r.weight }
 
   run_going : (draft : Option Part) (f : Fdt) → Going draft false f → (let r = fdt_run s now draft f in Going draft r.taken r.fdt)
@@ -301,7 +301,7 @@ fits_told s f c a b e = record {
   between = or_right (past_store s.fdt_store c) (any (shares c) (fdt_parts f.state)) b;
 }
 
-published_kept : (s : Setup) (now : ℕ) (c : Part) (f : Fdt) → publish_refusal s f c ≡ none → FdtReachable s f → FdtReachable s (fdt_published now c f)
+published_kept : (s : Setup) (now : ℕ) (c : Part) (f : Fdt) → publish_refusal s f c ≡ None → FdtReachable s f → FdtReachable s (fdt_published now c f)
 unfolding publish_refusal fdt_published
 published_kept s now c f e u =
     let five = bad_fdt_part s f.state c in
@@ -319,11 +319,11 @@ published_kept s now c f e u =
       window = u.window;
     }
 
-draft_fits : (s : Setup) (f : Fdt) (draft : Option Part) → draft_refusal s f draft ≡ none → IfGiven (Fits s f) (draft_of draft)
+draft_fits : (s : Setup) (f : Fdt) (draft : Option Part) → draft_refusal s f draft ≡ None → IfGiven (Fits s f) (draft_of draft)
 unfolding draft_refusal draft_of
-draft_fits s f none e = tt
-draft_fits s f (some c) e = (elim (eqb c.size 0)
-    as (λ t. eqb c.size 0 ≡ t → maybe none (λ c. first_of ((Because.Sizes, bad_blocks s.sizes c.size) ∷ (Because.Part, bad_fdt_part s f.state c) ∷ [])) (when t then none else some c) ≡ none → IfGiven (Fits s f) (when t then none else some c)) [
+draft_fits s f None e = tt
+draft_fits s f (Some c) e = (elim (eqb c.size 0)
+    as (λ t. eqb c.size 0 ≡ t → maybe None (λ c. first_of ((Because.Sizes, bad_blocks s.sizes c.size) ∷ (Because.Part, bad_fdt_part s f.state c) ∷ [])) (when t then None else Some c) ≡ None → IfGiven (Fits s f) (when t then None else Some c)) [
       | true ↦ λ z e. tt
       | false ↦ λ z e. (let r = first_none Because.Sizes (bad_blocks s.sizes c.size) ((Because.Part, bad_fdt_part s f.state c) ∷ []) e in
           fits_told s f c r.0 (first_none Because.Part (bad_fdt_part s f.state c) [] r.1).0 z)
@@ -343,12 +343,12 @@ ran_kept s now draft f k u = record {
     going w b h = run_going s now w b draft f (record { few = u.few; idle = u.idle; matched = u.matched; window = u.window; weight = h })
 
     fits : (x : Option Part) → IfGiven (Fits s f) x → total (unfits s) (fdt_parts f.state) + maybe 0 (unfits s) x ≤ 0
-    fits none v = let a = fit_none s (fdt_parts f.state) u.admitted in omega arith
-    fits (some c) v = let a = fit_none s (fdt_parts f.state) u.admitted in let b = ap one_if v.fit in omega arith
+    fits None v = let a = fit_none s (fdt_parts f.state) u.admitted in omega arith
+    fits (Some c) v = let a = fit_none s (fdt_parts f.state) u.admitted in let b = ap one_if v.fit in omega arith
 
     covers : (n : ℕ) (x : Option Part) → IfGiven (Fits s f) x → total (cover n) (fdt_parts f.state) + maybe 0 (cover n) x ≤ 1
-    covers n none v = let a = apart_cover (fdt_parts f.state) u.apart n in omega arith
-    covers n (some c) v = one_cover c (fdt_parts f.state) v.between u.apart n
+    covers n None v = let a = apart_cover (fdt_parts f.state) u.apart n in omega arith
+    covers n (Some c) v = one_cover c (fdt_parts f.state) v.between u.apart n
 
     fit : (let r = fdt_run s now draft f in Going s now (unfits s) 0 draft r.taken r.fdt)
     fit = going (unfits s) 0 (fits draft k)
@@ -373,8 +373,8 @@ fdt_step s d (Call.run_fdt now draft) u = kept (λ e. FdtReachable s e.fdt) (dra
 fdt_step s d (Call.run_file i now) u = go (at d.sessions i)
   where
     go : (x : Option Session) → FdtReachable s (maybe (Answer.refused Because.NoSession, d) (ran s now i d) x).1.fdt
-    go none = u
-    go (some x) = u
+    go None = u
+    go (Some x) = u
 
 pub fdt_opening : (s : Setup) → FdtReachable s (opening s).fdt
 unfolding opening fdt_parts

@@ -1,7 +1,7 @@
 -- What sessions have in hand: at most a window of open blocks, and an object of the session's priority. The sessions stay those of the set-up.
 use mathlib.Core.Path.{◌≡◌, refl, ap, subst, sym, ◌∙◌}
 use mathlib.Core.Bool.{Bool, not, ◌||◌}
-use mathlib.Core.Option.{Option, none, some}
+use Rattle.std.specs.Prelude.{Option, None, Some}
 use mathlib.Core.List.{List, [], ◌∷◌, map}
 use Prim.Native.Nat.{ℕ, zero, suc, ◌-◌, ◌≤◌, min}
 use native.Mathlib.Omega.{arith}
@@ -47,7 +47,7 @@ fill_window w p x h =
 
 emptied_window : (w : ℕ) (c : Part) (x : Encoder) → length x.window ≤ w → length (emptied c x).1.window ≤ w
 unfolding emptied
-emptied_window w c x h = either (λ (r : Option Symbol × Encoder). length r.1.window ≤ w) (x.begun || not (eqb c.size 0)) (none, x) _ h h
+emptied_window w c x h = either (λ (r : Option Symbol × Encoder). length r.1.window ≤ w) (x.begun || not (eqb c.size 0)) (None, x) _ h h
 
 advanced_window : (w : ℕ) (x : Encoder) (i : ℕ) (o : Open) → length x.window ≤ w → length (advanced x i o).window ≤ w
 unfolding advanced
@@ -62,15 +62,15 @@ visit_window (suc k) w c z force x h =
     let i = wrapped y in
     let g = fill_window w p x h in
     let again = visit_window k w c z force (without y i) (let a = length_cut y.window i in omega arith) in
-    elim (at y.window i) as (λ (o : Option Open). length (maybe (emptied c y) (λ o. when drained p o then visit k w c z force (without y i) else (some (symbol_of c z force o (advanced y i o)), advanced y i o)) o).1.window ≤ w) [
-      | none ↦ emptied_window w c y g
-      | some o ↦ either (λ (r : Option Symbol × Encoder). length r.1.window ≤ w) (drained p o) (visit k w c z force (without y i)) _ again (advanced_window w y i o g)
+    elim (at y.window i) as (λ (o : Option Open). length (maybe (emptied c y) (λ o. when drained p o then visit k w c z force (without y i) else (Some (symbol_of c z force o (advanced y i o)), advanced y i o)) o).1.window ≤ w) [
+      | None ↦ emptied_window w c y g
+      | Some o ↦ either (λ (r : Option Symbol × Encoder). length r.1.window ≤ w) (drained p o) (visit k w c z force (without y i)) _ again (advanced_window w y i o g)
     ]
 
 -- a read keeps it
 pub read_window : (w : ℕ) (c : Part) (z : Sizes) (force : Bool) (x : Encoder) → length x.window ≤ w → length (read w c z force x).1.window ≤ w
 unfolding read stopping
-read_window w c z force x h = either (λ (r : Option Symbol × Encoder). length r.1.window ≤ w) x.stopped (none, x) _
+read_window w c z force x h = either (λ (r : Option Symbol × Encoder). length r.1.window ≤ w) x.stopped (None, x) _
     h (visit_window (suc (length x.window)) w c z force (stopping force x) h)
 
 -- ---- a file session's run
@@ -107,9 +107,9 @@ in_hand_served s f k l u = record {
   same = map_hidden priority_of (in_hand f) l (each_all (λ x. (in_hand f x).priority ≡ x.priority) (λ x. refl) l);
 }
   where
-    go : (p : ℕ) (h : Option Hand) → IfGiven (InHands s p) h → IfGiven (InHands s p) (maybe none (λ y. some (f y)) h)
-    go p none v = tt
-    go p (some h) v = k p h v
+    go : (p : ℕ) (h : Option Hand) → IfGiven (InHands s p) h → IfGiven (InHands s p) (maybe None (λ y. Some (f y)) h)
+    go p None v = tt
+    go p (Some h) v = k p h v
 
 published_served : (s : Setup) (d : Desk) → HandsKept s d.sessions → Served s d.sessions (all_published d).sessions
 unfolding all_published moved marked_hand marked
@@ -145,8 +145,8 @@ served_step s d (Call.run_fdt now draft) u =
 served_step s d (Call.run_file i now) u = go (at d.sessions i) refl
   where
     go : (x : Option Session) → at d.sessions i ≡ x → Served s d.sessions (maybe (Answer.refused Because.NoSession, d) (ran s now i d) x).1.sessions
-    go none e = stays s d.sessions u
-    go (some x) e =
+    go None e = stays s d.sessions u
+    go (Some x) e =
         let P : Session → Type 0 = λ (y : Session). IfGiven (InHands s y.priority) y.hand in
         let r = file_run s x.priority now (fdt_queued d) d.queue x.hand in
         record {
@@ -165,7 +165,7 @@ pub hands_opening : (s : Setup) → HandsKept s (opening s).sessions
 unfolding opening
 hands_opening s = empty s.priorities
   where
-    empty : (l : List ℕ) → HandsKept s (map (λ p. record { priority = p; hand = none }) l)
+    empty : (l : List ℕ) → HandsKept s (map (λ p. record { priority = p; hand = None }) l)
     empty [] = tt
     empty (p ∷ l) = (tt, empty l)
 
@@ -173,6 +173,6 @@ pub priorities_opening : (s : Setup) → map priority_of (opening s).sessions �
 unfolding opening
 priorities_opening s = same s.priorities
   where
-    same : (l : List ℕ) → map priority_of (map (λ p. record { priority = p; hand = none }) l) ≡ l
+    same : (l : List ℕ) → map priority_of (map (λ p. record { priority = p; hand = None }) l) ≡ l
     same [] = refl
     same (p ∷ l) = ap (λ r. p ∷ r) (same l)

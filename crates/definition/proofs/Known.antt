@@ -1,7 +1,7 @@
 -- What a run keeps: a session sends its own priority's objects, and the numbers of the priority's objects are among those that its admissions got.
 use mathlib.Core.Path.{◌≡◌, refl, sym, ◌∙◌, ap, subst}
 use mathlib.Core.Bool.{Bool, true, false, not, ◌&&◌, ◌||◌, true≢false}
-use mathlib.Core.Option.{Option, none, some}
+use Rattle.std.specs.Prelude.{Option, None, Some}
 use mathlib.Core.List.{List, [], ◌∷◌, ◌++◌, map, append-nil}
 use Prim.Native.Nat.{ℕ}
 use lib.Dec.{eqb}
@@ -28,8 +28,8 @@ abbrev pub Noted : ℕ → List ℕ → Object → Type 0
 Noted p j o = mine p o ≡ true → has o.toi j ≡ true
 
 abbrev pub HeldFits : ℕ → List ℕ → ℕ → Option Hand → Type 0
-HeldFits p j r none = Unit {0}
-HeldFits p j r (some h) = (h.object.priority ≡ r) × Noted p j h.object
+HeldFits p j r None = Unit {0}
+HeldFits p j r (Some h) = (h.object.priority ≡ r) × Noted p j h.object
 
 abbrev pub Fits : ℕ → List ℕ → Session → Type 0
 Fits p j x = HeldFits p j x.priority x.hand
@@ -40,8 +40,8 @@ pub record Known (p : ℕ) (j : List ℕ) (d : Desk) : Type 0 where
 
 -- the number of a packet of the priority is among them
 abbrev pub PacketNoted : ℕ → List ℕ → ℕ → Option Packet → Type 0
-PacketNoted p j r none = Unit {0}
-PacketNoted p j r (some k) = eqb r p ≡ true → has k.toi j ≡ true
+PacketNoted p j r None = Unit {0}
+PacketNoted p j r (Some k) = eqb r p ≡ true → has k.toi j ≡ true
 
 -- a turn of a session of priority r
 abbrev pub TurnFits : ℕ → List ℕ → ℕ → Turn → Type 0
@@ -85,12 +85,12 @@ module _ (p : ℕ) (f : ℕ → ℕ) where
 
   -- what another priority's session has in hand
   abbrev Other : Option Hand → Type 0
-  Other none = Unit {0}
-  Other (some h) = mine p h.object ≡ false
+  Other None = Unit {0}
+  Other (Some h) = mine p h.object ≡ false
 
   held_other : (r : ℕ) → eqb r p ≡ false → (j : List ℕ) (h : Option Hand) → HeldFits p j r h → Other h
-  held_other r k j none v = tt
-  held_other r k j (some h) v = ap (λ n. eqb n p) v.0 ∙ k
+  held_other r k j None v = tt
+  held_other r k j (Some h) v = ap (λ n. eqb n p) v.0 ∙ k
 
   pub file_run_other : (r : ℕ) → eqb r p ≡ false → (s : Setup) (now : ℕ) (b : Bool) (q : List Object) (j : List ℕ) (h : Option Hand) → HeldFits p j r h
       → seen p f (file_run s r now b q h).queue ≡ seen p f q
@@ -111,9 +111,9 @@ in_hand_known : (p : ℕ) (j : List ℕ) (g : Hand → Hand) → ((h : Hand) →
 unfolding in_hand
 in_hand_known p j g k x u = go x.hand u
   where
-    go : (h : Option Hand) → HeldFits p j x.priority h → HeldFits p j x.priority (maybe none (λ y. some (g y)) h)
-    go none v = tt
-    go (some h) v = ((k h).0 ∙ v.0, λ e. subst (λ t. has t j ≡ true) (sym (k h).1) (v.1 (ap (λ n. eqb n p) (sym (k h).0) ∙ e)))
+    go : (h : Option Hand) → HeldFits p j x.priority h → HeldFits p j x.priority (maybe None (λ y. Some (g y)) h)
+    go None v = tt
+    go (Some h) v = ((k h).0 ∙ v.0, λ e. subst (λ t. has t j ≡ true) (sym (k h).1) (v.1 (ap (λ n. eqb n p) (sym (k h).0) ∙ e)))
 
 pub marked_held_same : (h : Hand) → ((marked_hand h).object.priority ≡ h.object.priority) × ((marked_hand h).object.toi ≡ h.object.toi)
 unfolding marked_hand marked
@@ -143,8 +143,8 @@ more_fits : (p t : ℕ) (j : List ℕ) (x : Session) → Fits p j x → Fits p (
 more_fits p t j x u = go x.hand u
   where
     go : (h : Option Hand) → HeldFits p j x.priority h → HeldFits p (t ∷ j) x.priority h
-    go none v = tt
-    go (some h) v = (v.0, more_noted p t j h.object v.1)
+    go None v = tt
+    go (Some h) v = (v.0, more_noted p t j h.object v.1)
 
 pub more_known : (p t : ℕ) (j : List ℕ) (d : Desk) → Known p j d → Known p (t ∷ j) d
 more_known p t j d u = record {
@@ -159,8 +159,8 @@ admitted_known p j s t q d k u = record { waiting = each_append (Noted p j) d.qu
 
 reserved_known : (p : ℕ) (j : List ℕ) (s : Setup) (d : Desk) (named : Option ℕ) → Known p j d → Known p j (when given named then d else reserved s d)
 unfolding reserved numbered
-reserved_known p j s d none u = record { waiting = u.waiting; serving = u.serving }
-reserved_known p j s d (some t) u = u
+reserved_known p j s d None u = record { waiting = u.waiting; serving = u.serving }
+reserved_known p j s d (Some t) u = u
 
 has_first : (t : ℕ) (j : List ℕ) → has t (t ∷ j) ≡ true
 has_first t j = rw (eq-eqb t t refl)
@@ -172,7 +172,7 @@ add_known p j s t q d named u = (elim (eqb q.priority p) as (λ b. eqb q.priorit
   | false ↦ λ e. admitted_known p j s t q (when given named then d else reserved s d) (λ k. absurd (true≢false (sym k ∙ e))) (reserved_known p j s d named u)
 ]) refl
 
-ran_known : (p : ℕ) (j : List ℕ) (s : Setup) (now i : ℕ) (d : Desk) (x : Session) → at d.sessions i ≡ some x → Known p j d → Known p j (ran s now i d x).1
+ran_known : (p : ℕ) (j : List ℕ) (s : Setup) (now i : ℕ) (d : Desk) (x : Session) → at d.sessions i ≡ Some x → Known p j d → Known p j (ran s now i d x).1
 unfolding ran moved fdt_queued
 ran_known p j s now i d x e u =
     let k = file_run_known p j x.priority s now (not (eqb (length d.fdt.state.waiting) 0)) d.queue x.hand u.waiting (each_at (Fits p j) d.sessions i x e u.serving) in
@@ -184,19 +184,19 @@ unfolding step numbered moved touched unloosed fdt_ran
 known_step p j s d Call.reserve u = go (reserve_refusal d)
   where
     go : (x : Option Refusal) → Known p j (unless x d (Answer.number d.next, reserved s d)).1
-    go none = reserved_known p j s d none u
-    go (some n) = u
+    go None = reserved_known p j s d None u
+    go (Some n) = u
 known_step p j s d (Call.release t) u = go (release_refusal d t)
   where
     go : (x : Option Refusal) → Known p j (unless x d (Answer.done, numbered d d.next (keep (λ v. not (eqb v t)) d.loose))).1
-    go none = record { waiting = u.waiting; serving = u.serving }
-    go (some n) = u
+    go None = record { waiting = u.waiting; serving = u.serving }
+    go (Some n) = u
 known_step p j s d (Call.add named q) u = go (add_refusal s d named q)
   where
     go : (x : Option Refusal) → Known p (got_after p (Call.add named q) (unless x d (Answer.number (toi_for d named), admitted s (toi_for d named) q (when given named then d else reserved s d))).0 j)
         (unless x d (Answer.number (toi_for d named), admitted s (toi_for d named) q (when given named then d else reserved s d))).1
-    go none = add_known p j s (toi_for d named) q d named u
-    go (some n) = u
+    go None = add_known p j s (toi_for d named) q d named u
+    go (Some n) = u
 known_step p j s d (Call.touch t x) u = record {
   waiting = each_touched (touched_waiting t x) (touched_kept t x) (Noted p j) (λ l o v. v) d.queue u.waiting;
   serving = each_map (Fits p j) (in_hand (touched_hand t x)) (in_hand_known p j (touched_hand t x) (touched_same t x)) d.sessions u.serving;
@@ -206,24 +206,24 @@ known_step p j s d Call.complete u = record { waiting = u.waiting; serving = u.s
 known_step p j s d (Call.publish now c) u = go (publish_refusal s d.fdt c)
   where
     go : (x : Option Refusal) → Known p j (unless x d (Answer.done, all_published (with_fdt d (fdt_published now c d.fdt)))).1
-    go none = published_known p j (with_fdt d (fdt_published now c d.fdt)) (with_fdt_known p j d (fdt_published now c d.fdt) u)
-    go (some n) = u
+    go None = published_known p j (with_fdt d (fdt_published now c d.fdt)) (with_fdt_known p j d (fdt_published now c d.fdt) u)
+    go (Some n) = u
 known_step p j s d (Call.run_fdt now draft) u = go (draft_refusal s d.fdt draft) (fdt_run s now (draft_of draft) d.fdt)
   where
     go : (x : Option Refusal) (r : FdtTurn) → Known p j (unless x d (Answer.fdt_output r.taken r.packet, when r.taken then all_published (with_fdt d r.fdt) else with_fdt d r.fdt)).1
-    go none r = elim r.taken as (λ t. Known p j (when t then all_published (with_fdt d r.fdt) else with_fdt d r.fdt))
+    go None r = elim r.taken as (λ t. Known p j (when t then all_published (with_fdt d r.fdt) else with_fdt d r.fdt))
         [ true ↦ published_known p j (with_fdt d r.fdt) (with_fdt_known p j d r.fdt u) | false ↦ with_fdt_known p j d r.fdt u ]
-    go (some n) r = u
+    go (Some n) r = u
 known_step p j s d (Call.run_file i now) u = go (at d.sessions i) refl
   where
     go : (x : Option Session) → at d.sessions i ≡ x → Known p j (maybe (Answer.refused Because.NoSession, d) (ran s now i d) x).1
-    go none e = u
-    go (some x) e = ran_known p j s now i d x e u
+    go None e = u
+    go (Some x) e = ran_known p j s now i d x e u
 
 pub known_opening : (p : ℕ) (s : Setup) → Known p [] (opening s)
 unfolding opening
 known_opening p s = record { waiting = tt; serving = empty s.priorities }
   where
-    empty : (l : List ℕ) → Each (Fits p []) (map (λ r. record { priority = r; hand = none }) l)
+    empty : (l : List ℕ) → Each (Fits p []) (map (λ r. record { priority = r; hand = None }) l)
     empty [] = tt
     empty (r ∷ l) = (tt, empty l)

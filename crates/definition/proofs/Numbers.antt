@@ -1,7 +1,7 @@
 -- Object numbers: what a call does to those that are held, and so: none is given twice, all are in range, and their entries suffice.
 use mathlib.Core.Path.{◌≡◌, refl, sym, ◌∙◌, ap, subst}
 use mathlib.Core.Bool.{true, false, not, ◌&&◌, ◌||◌, false≢true}
-use mathlib.Core.Option.{Option, none, some}
+use Rattle.std.specs.Prelude.{Option, None, Some}
 use mathlib.Core.List.{List, [], ◌∷◌, ◌++◌, map}
 use Prim.Native.Nat.{ℕ, ◌+◌, ◌≤◌, ◌<◌}
 use native.Mathlib.Omega.{arith}
@@ -42,7 +42,7 @@ pub record Admissible (s : Setup) (d : Desk) (named : Option ℕ) (c : Part) : T
   pub is_loose : not_loose d named ≡ false
   pub has_room : no_room d named ≡ false
 
-module _ (s : Setup) (d : Desk) (named : Option ℕ) (q : Request) (e : add_refusal s d named q ≡ none) where
+module _ (s : Setup) (d : Desk) (named : Option ℕ) (q : Request) (e : add_refusal s d named q ≡ None) where
   pub admissible : Admissible s d named q.part
   admissible = let r = (add_fails s d named q e).1.1.1 in record { part_fits = r.0; is_loose = r.1.0; has_room = r.1.1.0 }
 
@@ -50,9 +50,9 @@ module _ (s : Setup) (d : Desk) (named : Option ℕ) (q : Request) (e : add_refu
   blocks_fit = (add_fails s d named q e).1.1.0
 
 -- the reservation that it names is there
-pub loose_true : (s : Setup) (d : Desk) (v : ℕ) (q : Request) → add_refusal s d (some v) q ≡ none → has v d.loose ≡ true
+pub loose_true : (s : Setup) (d : Desk) (v : ℕ) (q : Request) → add_refusal s d (Some v) q ≡ None → has v d.loose ≡ true
 unfolding not_loose
-loose_true s d v q r = not-false (has v d.loose) (admissible s d (some v) q r).is_loose
+loose_true s d v q r = not-false (has v d.loose) (admissible s d (Some v) q r).is_loose
 
 -- a slot is free, and an entry where one is needed
 pub room : (d : Desk) (named : Option ℕ) → no_room d named ≡ false → (length (objects d) < object_slots) × ((not (given named) && full d) ≡ false)
@@ -112,7 +112,7 @@ reserved_has s d = last d.loose
     last (a ∷ l) = elim (eqb a d.next) as (λ t. (t || has d.next (l ++ (d.next ∷ []))) ≡ true) [ true ↦ refl | false ↦ last l ]
 
 -- a call that leaves the reservations as they are, and is no add
-same_loose : (s : Setup) (d : Desk) (c : Call) → adding c ≡ none → (step s d c).1.loose ≡ d.loose → (step s d c).1.next ≡ d.next → Change s d (step s d c)
+same_loose : (s : Setup) (d : Desk) (c : Call) → adding c ≡ None → (step s d c).1.loose ≡ d.loose → (step s d c).1.next ≡ d.next → Change s d (step s d c)
 same_loose s d c k l n = no_more n (λ v.
     let a = total_numbers v (step s d c).1 in
     let b = total_numbers v d in
@@ -127,9 +127,9 @@ change s d (Call.release t) = settled (Change s d) (release_refusal d t) d _ (λ
     let a = total_numbers v (numbered d d.next (unloosed t d.loose)) in
     let b = total_numbers v d in
     let c = total_keep v (λ u. not (eqb u t)) d.loose in omega arith))
-change s d (Call.add none q) = settled (Change s d) (add_refusal s d none q) d _ (λ n. no_more refl (λ v. omega arith))
-    (λ e. one_more refl (room d none (admissible s d none q e).has_room).1 refl (λ v. let a = admitted_numbers s d.next q (reserved s d) (reserved_has s d) v in let b = reserved_numbers s d v in omega arith))
-change s d (Call.add (some t) q) = settled (Change s d) (add_refusal s d (some t) q) d _ (λ n. no_more refl (λ v. omega arith))
+change s d (Call.add None q) = settled (Change s d) (add_refusal s d None q) d _ (λ n. no_more refl (λ v. omega arith))
+    (λ e. one_more refl (room d None (admissible s d None q e).has_room).1 refl (λ v. let a = admitted_numbers s d.next q (reserved s d) (reserved_has s d) v in let b = reserved_numbers s d v in omega arith))
+change s d (Call.add (Some t) q) = settled (Change s d) (add_refusal s d (Some t) q) d _ (λ n. no_more refl (λ v. omega arith))
     (λ e. no_more refl (admitted_numbers s t q d (loose_true s d t q e)))
 change s d (Call.touch t x) = same_loose s d (Call.touch t x) refl refl refl
 change s d (Call.ask q) = same_loose s d (Call.ask q) refl refl refl
@@ -144,12 +144,12 @@ change s d (Call.run_fdt now draft) =
 change s d (Call.run_file i now) = same_loose s d (Call.run_file i now) refl (loose (at d.sessions i)) (next (at d.sessions i))
   where
     loose : (x : Option Session) → (maybe (Answer.refused Because.NoSession, d) (ran s now i d) x).1.loose ≡ d.loose
-    loose none = refl
-    loose (some x) = refl
+    loose None = refl
+    loose (Some x) = refl
 
     next : (x : Option Session) → (maybe (Answer.refused Because.NoSession, d) (ran s now i d) x).1.next ≡ d.next
-    next none = refl
-    next (some x) = refl
+    next None = refl
+    next (Some x) = refl
 
 -- the same, for how often a number is held and for how many are
 fewer_times : (d e : Desk) (n k : ℕ) → ((v : ℕ → ℕ) → total v (numbers e) ≤ total v (k ∷ numbers d)) → times n (numbers e) ≤ times n (k ∷ numbers d)
@@ -211,7 +211,7 @@ next_anew : (s : Setup) (d : Desk) (c : Call) (t : ℕ) → Unique s d → d.nex
 next_anew s d c t u e = Given.anew (subst (λ n. has n (numbers d) ≡ false) e (times_has d.next (numbers d) u.free))
 
 -- calls that give none
-not_given : {c : Call} {d : Desk} (a : Answer) (t : ℕ) → number_in a ≡ none → a ≡ Answer.number t → Given d c t
+not_given : {c : Call} {d : Desk} (a : Answer) (t : ℕ) → number_in a ≡ None → a ≡ Answer.number t → Given d c t
 not_given a t h e = absurd (none≢some (sym h ∙ ap number_in e))
 
 pub given_once : (s : Setup) (d : Desk) (c : Call) (t : ℕ) → Unique s d → (step s d c).0 ≡ Answer.number t → Given d c t
@@ -220,13 +220,13 @@ given_once s d Call.reserve t u = settled (λ r. r.0 ≡ Answer.number t → Giv
     (λ n. not_given (Answer.refused n) t refl) (λ x e. next_anew s d Call.reserve t u (cc))
 given_once s d (Call.release v) t u = settled (λ r. r.0 ≡ Answer.number t → Given d (Call.release v) t) (release_refusal d v) d _
     (λ n. not_given (Answer.refused n) t refl) (λ x. not_given Answer.done t refl)
-given_once s d (Call.add none q) t u = settled (λ r. r.0 ≡ Answer.number t → Given d (Call.add none q) t) (add_refusal s d none q) d _
-    (λ n. not_given (Answer.refused n) t refl) (λ x e. next_anew s d (Call.add none q) t u (cc))
-given_once s d (Call.add (some v) q) t u = settled (λ r. r.0 ≡ Answer.number t → Given d (Call.add (some v) q) t) (add_refusal s d (some v) q) d _
+given_once s d (Call.add None q) t u = settled (λ r. r.0 ≡ Answer.number t → Given d (Call.add None q) t) (add_refusal s d None q) d _
+    (λ n. not_given (Answer.refused n) t refl) (λ x e. next_anew s d (Call.add None q) t u (cc))
+given_once s d (Call.add (Some v) q) t u = settled (λ r. r.0 ≡ Answer.number t → Given d (Call.add (Some v) q) t) (add_refusal s d (Some v) q) d _
     (λ n. not_given (Answer.refused n) t refl) (λ x e. named x (cc))
   where
-    named : add_refusal s d (some v) q ≡ none → v ≡ t → Given d (Call.add (some v) q) t
-    named x e = Given.by_name q (ap (λ w. Call.add (some w) q) e) (subst (λ w. has w d.loose ≡ true) e (loose_true s d v q x))
+    named : add_refusal s d (Some v) q ≡ None → v ≡ t → Given d (Call.add (Some v) q) t
+    named x e = Given.by_name q (ap (λ w. Call.add (Some w) q) e) (subst (λ w. has w d.loose ≡ true) e (loose_true s d v q x))
 given_once s d (Call.touch v x) t u = not_given _ t refl
 given_once s d (Call.ask q) t u = not_given _ t (plain d q).0
 given_once s d Call.complete t u = not_given _ t refl
@@ -237,8 +237,8 @@ given_once s d (Call.run_fdt now draft) t u = settled (λ r. r.0 ≡ Answer.numb
 given_once s d (Call.run_file i now) t u = go (at d.sessions i)
   where
     go : (x : Option Session) → (maybe (Answer.refused Because.NoSession, d) (ran s now i d) x).0 ≡ Answer.number t → Given d (Call.run_file i now) t
-    go none = not_given _ t refl
-    go (some x) = not_given _ t refl
+    go None = not_given _ t refl
+    go (Some x) = not_given _ t refl
 
 -- ---- where held numbers come from, their range, and how many there are
 

@@ -1,7 +1,7 @@
 -- Demand 3, whole: the run where only these calls are made has them, meets no refusal 5, 6 or 7 and is answered alike.
 use mathlib.Core.Path.{◌≡◌, refl, sym, ◌∙◌, ap, subst}
 use mathlib.Core.Bool.{Bool, true, false, not, ◌&&◌, ◌||◌, true≢false, false≢true}
-use mathlib.Core.Option.{Option, none, some}
+use Rattle.std.specs.Prelude.{Option, None, Some}
 use mathlib.Core.List.{List, [], ◌∷◌, ◌++◌, map, append-nil}
 use Prim.Native.Nat.{ℕ, suc, ◌+◌, ◌≤◌}
 use native.Mathlib.Omega.{arith}
@@ -173,7 +173,7 @@ record Quiet (s : Setup) (p : ℕ) (d : Desk) (c : Call) : Type 0 where
   no_note : (j : List ℕ) → got_after p c (step s d c).0 j ≡ j
 
 -- an answer without a number ties nothing
-untied : (a b : Answer) (m : List (ℕ × ℕ)) → number_in a ≡ none → tie a b m ≡ m
+untied : (a b : Answer) (m : List (ℕ × ℕ)) → number_in a ≡ None → tie a b m ≡ m
 untied a b m h = ap (λ x. maybe m (λ t. maybe m (λ u. (t, u) ∷ m) (number_in b)) x) h
 
 quieted : (s : Setup) (p : ℕ) (d : Desk) (c : Call) → quiet c ≡ true → Quiet s p d c
@@ -190,12 +190,12 @@ quieted s p d (Call.publish now c) e = record { same_loose = go (publish_refusal
     r = (Answer.done, all_published (with_fdt d (fdt_published now c d.fdt)))
 
     go : (x : Option Refusal) → (unless x d r).1.loose ≡ d.loose
-    go none = refl
-    go (some n) = refl
+    go None = refl
+    go (Some n) = refl
 
     to : (x : Option Refusal) (a : Answer) (m : List (ℕ × ℕ)) → tie (unless x d r).0 a m ≡ m
-    to none a m = refl
-    to (some n) a m = refl
+    to None a m = refl
+    to (Some n) a m = refl
 quieted s p d (Call.run_fdt now draft) e = record {
   same_loose = go (draft_refusal s d.fdt draft) (fdt_run s now (draft_of draft) d.fdt);
   no_end = λ t. refl;
@@ -207,21 +207,21 @@ quieted s p d (Call.run_fdt now draft) e = record {
     result r = (Answer.fdt_output r.taken r.packet, when r.taken then all_published (with_fdt d r.fdt) else with_fdt d r.fdt)
 
     go : (x : Option Refusal) (r : FdtTurn) → (unless x d (result r)).1.loose ≡ d.loose
-    go none r = elim r.taken as (λ b. (when b then all_published (with_fdt d r.fdt) else with_fdt d r.fdt).loose ≡ d.loose) [ true ↦ refl | false ↦ refl ]
-    go (some n) r = refl
+    go None r = elim r.taken as (λ b. (when b then all_published (with_fdt d r.fdt) else with_fdt d r.fdt).loose ≡ d.loose) [ true ↦ refl | false ↦ refl ]
+    go (Some n) r = refl
 
     to : (x : Option Refusal) (r : FdtTurn) (a : Answer) (m : List (ℕ × ℕ)) → tie (unless x d (result r)).0 a m ≡ m
-    to none r a m = refl
-    to (some n) r a m = refl
+    to None r a m = refl
+    to (Some n) r a m = refl
 quieted s p d (Call.run_file i now) e = record { same_loose = go (at d.sessions i); no_end = λ t. refl; no_tie = to (at d.sessions i); no_note = λ j. refl }
   where
     go : (x : Option Session) → (maybe (Answer.refused Because.NoSession, d) (ran s now i d) x).1.loose ≡ d.loose
-    go none = refl
-    go (some x) = refl
+    go None = refl
+    go (Some x) = refl
 
     to : (x : Option Session) (a : Answer) (m : List (ℕ × ℕ)) → tie (maybe (Answer.refused Because.NoSession, d) (ran s now i d) x).0 a m ≡ m
-    to none a m = refl
-    to (some x) a m = refl
+    to None a m = refl
+    to (Some x) a m = refl
 
 quiet_through : (m : List (ℕ × ℕ)) (c : Call) → quiet c ≡ true → quiet (through m c) ≡ true
 quiet_through m Call.reserve e = e
@@ -276,26 +276,26 @@ claimed_other s p d Call.reserve l u a h = go (reserve_refusal d) h
   where
     go : (x : Option Refusal) → (accepted (unless x d (Answer.number d.next, reserved s d)).0 && claims s p d.next (unless x d (Answer.number d.next, reserved s d)).1 l) ≡ false
         → Then s p l (unless x d (Answer.number d.next, reserved s d)) ≡ Before s p d Call.reserve l (unless x d (Answer.number d.next, reserved s d))
-    go none h = ap (keep (λ t. claims s p t (reserved s d) l)) (reserved_loose s d) ∙ keep_not_last (λ t. claims s p t (reserved s d) l) d.loose d.next h
-    go (some n) h = refl
+    go None h = ap (keep (λ t. claims s p t (reserved s d) l)) (reserved_loose s d) ∙ keep_not_last (λ t. claims s p t (reserved s d) l) d.loose d.next h
+    go (Some n) h = refl
 claimed_other s p d (Call.release v) l u a h = go (release_refusal d v)
   where
     r : Result
     r = (Answer.done, numbered d d.next (less v d.loose))
 
     go : (x : Option Refusal) → Then s p l (unless x d r) ≡ Before s p d (Call.release v) l (unless x d r)
-    go none = keep_ended (λ t. claims s p t r.1 l) v d.loose
-    go (some n) = refl
-claimed_other s p d (Call.add none q) l u a h = go (add_refusal s d none q)
+    go None = keep_ended (λ t. claims s p t r.1 l) v d.loose
+    go (Some n) = refl
+claimed_other s p d (Call.add None q) l u a h = go (add_refusal s d None q)
   where
-    go : (x : Option Refusal) → Then s p l (unless x d (add_result s d none q)) ≡ Before s p d (Call.add none q) l (unless x d (add_result s d none q))
-    go none = ap (keep (λ t. claims s p t (admitted s d.next q (reserved s d)) l)) (admitted_loose s d q u)
-    go (some n) = refl
-claimed_other s p d (Call.add (some v) q) l u a h = go (add_refusal s d (some v) q)
+    go : (x : Option Refusal) → Then s p l (unless x d (add_result s d None q)) ≡ Before s p d (Call.add None q) l (unless x d (add_result s d None q))
+    go None = ap (keep (λ t. claims s p t (admitted s d.next q (reserved s d)) l)) (admitted_loose s d q u)
+    go (Some n) = refl
+claimed_other s p d (Call.add (Some v) q) l u a h = go (add_refusal s d (Some v) q)
   where
-    go : (x : Option Refusal) → Then s p l (unless x d (add_result s d (some v) q)) ≡ Before s p d (Call.add (some v) q) l (unless x d (add_result s d (some v) q))
-    go none = rw a (ap (keep (λ t. claims s p t (admitted s v q d) l)) (named_loose s d v q) ∙ keep_ended (λ t. claims s p t (admitted s v q d) l) v d.loose)
-    go (some n) = refl
+    go : (x : Option Refusal) → Then s p l (unless x d (add_result s d (Some v) q)) ≡ Before s p d (Call.add (Some v) q) l (unless x d (add_result s d (Some v) q))
+    go None = rw a (ap (keep (λ t. claims s p t (admitted s v q d) l)) (named_loose s d v q) ∙ keep_ended (λ t. claims s p t (admitted s v q d) l) v d.loose)
+    go (Some n) = refl
 claimed_other s p d (Call.touch t x) l u a h = claimed_quiet s p d (Call.touch t x) l (quieted s p d (Call.touch t x) refl)
 claimed_other s p d (Call.ask q) l u a h = claimed_quiet s p d (Call.ask q) l (quieted s p d (Call.ask q) refl)
 claimed_other s p d Call.complete l u a h = claimed_quiet s p d Call.complete l (quieted s p d Call.complete refl)
@@ -339,31 +339,31 @@ loose_once s d u t = let a = times_append t d.loose (tois (objects d)) in let b 
 
 -- an admitted add of the priority, on both sides
 module _ (s : Setup) (p : ℕ) (j : List ℕ) (d : Desk) (i : List ℕ) (e : Desk) (m : List (ℕ × ℕ)) (l : List Call) (q : Request) (a : eqb q.priority p ≡ true) where
-  add_none : RelO s p j d i e m (Before s p d (Call.add none q) l (add_result s d none q))
-      → Rel s p (got_after p (Call.add none q) (Answer.number d.next) j) (add_result s d none q).1 (got_after p (Call.add none q) (Answer.number e.next) i) (add_result s e none q).1
-      → RelO s p (got_after p (Call.add none q) (Answer.number d.next) j) (add_result s d none q).1 (got_after p (Call.add none q) (Answer.number e.next) i) (add_result s e none q).1
-      ((d.next, e.next) ∷ m) (Then s p l (add_result s d none q))
+  add_none : RelO s p j d i e m (Before s p d (Call.add None q) l (add_result s d None q))
+      → Rel s p (got_after p (Call.add None q) (Answer.number d.next) j) (add_result s d None q).1 (got_after p (Call.add None q) (Answer.number e.next) i) (add_result s e None q).1
+      → RelO s p (got_after p (Call.add None q) (Answer.number d.next) j) (add_result s d None q).1 (got_after p (Call.add None q) (Answer.number e.next) i) (add_result s e None q).1
+      ((d.next, e.next) ∷ m) (Then s p l (add_result s d None q))
   unfolding toi_for
   add_none o r = record {
     rel = r;
-    linked = rw a (linked_more d.next e.next m i j (Before s p d (Call.add none q) l (add_result s d none q)) (Then s p l (add_result s d none q))
+    linked = rw a (linked_more d.next e.next m i j (Before s p d (Call.add None q) l (add_result s d None q)) (Then s p l (add_result s d None q))
         (one_length s p j d i e o.rel) o.linked (λ u y k. subst (λ n. has u n ≡ false) same k));
     alike_loose = admitted_loose s e q o.rel.unique' ∙ o.alike_loose
-        ∙ sym (map_tie d.next e.next m (Before s p d (Call.add none q) l (add_result s d none q)) (kept_has (λ t. claims s p t (add_result s d none q).1 l) d.next d.loose (next_not_loose s d o.rel.unique)))
+        ∙ sym (map_tie d.next e.next m (Before s p d (Call.add None q) l (add_result s d None q)) (kept_has (λ t. claims s p t (add_result s d None q).1 l) d.next d.loose (next_not_loose s d o.rel.unique)))
         ∙ ap (map (look ((d.next, e.next) ∷ m))) (sym same);
   }
     where
-      same : Then s p l (add_result s d none q) ≡ Before s p d (Call.add none q) l (add_result s d none q)
+      same : Then s p l (add_result s d None q) ≡ Before s p d (Call.add None q) l (add_result s d None q)
       same = ap (keep (λ t. claims s p t (admitted s d.next q (reserved s d)) l)) (admitted_loose s d q o.rel.unique)
 
-  add_some : (t : ℕ) → has t d.loose ≡ true → RelO s p j d i e m (Before s p d (Call.add (some t) q) l (add_result s d (some t) q))
-      → Rel s p (got_after p (Call.add (some t) q) (Answer.number t) j) (add_result s d (some t) q).1 (got_after p (Call.add (some (look m t)) q) (Answer.number (look m t)) i) (add_result s e (some (look m t)) q).1
-      → RelO s p (got_after p (Call.add (some t) q) (Answer.number t) j) (add_result s d (some t) q).1 (got_after p (Call.add (some (look m t)) q) (Answer.number (look m t)) i) (add_result s e (some (look m t)) q).1
-      ((t, look m t) ∷ m) (Then s p l (add_result s d (some t) q))
+  add_some : (t : ℕ) → has t d.loose ≡ true → RelO s p j d i e m (Before s p d (Call.add (Some t) q) l (add_result s d (Some t) q))
+      → Rel s p (got_after p (Call.add (Some t) q) (Answer.number t) j) (add_result s d (Some t) q).1 (got_after p (Call.add (Some (look m t)) q) (Answer.number (look m t)) i) (add_result s e (Some (look m t)) q).1
+      → RelO s p (got_after p (Call.add (Some t) q) (Answer.number t) j) (add_result s d (Some t) q).1 (got_after p (Call.add (Some (look m t)) q) (Answer.number (look m t)) i) (add_result s e (Some (look m t)) q).1
+      ((t, look m t) ∷ m) (Then s p l (add_result s d (Some t) q))
   unfolding toi_for
   add_some t z o r = record {
     rel = r;
-    linked = rw a (linked_more t (look m t) m i j old (Then s p l (add_result s d (some t) q)) (one_length s p j d i e o.rel) o.linked
+    linked = rw a (linked_more t (look m t) m i j old (Then s p l (add_result s d (Some t) q)) (one_length s p j d i e o.rel) o.linked
         (λ u y k. less_has t u old y (subst (λ n. has u n ≡ false) same k)));
     alike_loose = named_loose s e (look m t) q ∙ ap (less (look m t)) o.alike_loose
         ∙ less_map (look m) t old (apart_once (look m) t old in_old once)
@@ -372,9 +372,9 @@ module _ (s : Setup) (p : ℕ) (j : List ℕ) (d : Desk) (i : List ℕ) (e : Des
   }
     where
       old : List ℕ
-      old = Before s p d (Call.add (some t) q) l (add_result s d (some t) q)
+      old = Before s p d (Call.add (Some t) q) l (add_result s d (Some t) q)
 
-      same : Then s p l (add_result s d (some t) q) ≡ less t old
+      same : Then s p l (add_result s d (Some t) q) ≡ less t old
       same = ap (keep (λ v. claims s p v (admitted s t q d) l)) (named_loose s d t q) ∙ keep_claimed (λ v. claims s p v (admitted s t q d) l) t d.loose
           ∙ ap (less t) (keep_cong (λ v. when eqb t v then true else claims s p v (admitted s t q d) l) (λ v. when eqb t v then eqb q.priority p else claims s p v (admitted s t q d) l) d.loose (λ v. rw a))
 
@@ -454,31 +454,31 @@ full_there s p j d i e m f o h =
     lt-leb toi_entries (length (e.loose ++ tois (objects e))) (omega arith)
 
 -- an admitted add claims the reservation that it names
-claims_own : (s : Setup) (p : ℕ) (d : Desk) (t : ℕ) (q : Request) (l : List Call) → eqb q.priority p ≡ true → add_refusal s d (some t) q ≡ none → claims s p t d (Call.add (some t) q ∷ l) ≡ true
+claims_own : (s : Setup) (p : ℕ) (d : Desk) (t : ℕ) (q : Request) (l : List Call) → eqb q.priority p ≡ true → add_refusal s d (Some t) q ≡ None → claims s p t d (Call.add (Some t) q ∷ l) ≡ true
 unfolding claims
 claims_own s p d t q l a y =
-    ap (λ (r : Result). when ends t (Call.add (some t) q) r.0 then eqb q.priority p else claims s p t r.1 l) (step_add s d (some t) q none y)
-    ∙ ap (λ b. when b then eqb q.priority p else claims s p t (add_result s d (some t) q).1 l) (eq-eqb t t refl) ∙ a
+    ap (λ (r : Result). when ends t (Call.add (Some t) q) r.0 then eqb q.priority p else claims s p t r.1 l) (step_add s d (Some t) q None y)
+    ∙ ap (λ b. when b then eqb q.priority p else claims s p t (add_result s d (Some t) q).1 l) (eq-eqb t t refl) ∙ a
 
 -- rows 6 and 7 there
 rows_there : (s : Setup) (p : ℕ) (j : List ℕ) (d : Desk) (i : List ℕ) (e : Desk) (m : List (ℕ × ℕ)) (l : List Call) (named : Option ℕ) (q : Request) → eqb q.priority p ≡ true
-    → RelO s p j d i e m (claimed s p d (Call.add named q ∷ l)) → add_refusal s d named q ≡ none
-    → (not_loose e (maybe none (λ t. some (look m t)) named) ≡ false) × (no_room e (maybe none (λ t. some (look m t)) named) ≡ false)
+    → RelO s p j d i e m (claimed s p d (Call.add named q ∷ l)) → add_refusal s d named q ≡ None
+    → (not_loose e (maybe None (λ t. Some (look m t)) named) ≡ false) × (no_room e (maybe None (λ t. Some (look m t)) named) ≡ false)
 unfolding not_loose no_room
-rows_there s p j d i e m l none q a o y =
-    let k = admissible s d none q y in
-    (refl, rw (slots_there s p j d i e o.rel none k.has_room) (full_there s p j d i e m (λ t. claims s p t d (Call.add none q ∷ l)) o (or_right (leb object_slots (length (objects d))) (full d) k.has_room)))
-rows_there s p j d i e m l (some t) q a o y =
+rows_there s p j d i e m l None q a o y =
+    let k = admissible s d None q y in
+    (refl, rw (slots_there s p j d i e o.rel None k.has_room) (full_there s p j d i e m (λ t. claims s p t d (Call.add None q ∷ l)) o (or_right (leb object_slots (length (objects d))) (full d) k.has_room)))
+rows_there s p j d i e m l (Some t) q a o y =
     let z = claims_own s p d t q l a y in (
-      ap not (loose_there s p j d i e m (λ u. claims s p u d (Call.add (some t) q ∷ l)) t o (rw (loose_true s d t q y, z))),
-      rw (slots_there s p j d i e o.rel (some t) (admissible s d (some t) q y).has_room),
+      ap not (loose_there s p j d i e m (λ u. claims s p u d (Call.add (Some t) q ∷ l)) t o (rw (loose_true s d t q y, z))),
+      rw (slots_there s p j d i e o.rel (Some t) (admissible s d (Some t) q y).has_room),
     )
 
 -- turned away there only if here
 clear_there : (s : Setup) (p : ℕ) (j : List ℕ) (d : Desk) (i : List ℕ) (e : Desk) (m : List (ℕ × ℕ)) (l : List Call) (c : Call)
     → RelO s p j d i e m (claimed s p d (c ∷ l)) → about p d c ≡ true → turned_away p c (step s d c).0 ≡ false → turned_away p (through m c) (step s e (through m c)).0 ≡ false
 unfolding about
-clear_there s p j d i e m l (Call.add named q) o a h = rw a (add_there s p j d i e named (maybe none (λ t. some (look m t)) named) q o.rel (rows_there s p j d i e m l named q a o) (rw a at h))
+clear_there s p j d i e m l (Call.add named q) o a h = rw a (add_there s p j d i e named (maybe None (λ t. Some (look m t)) named) q o.rel (rows_there s p j d i e m l named q a o) (rw a at h))
 clear_there s p j d i e m l Call.reserve o a h = refl
 clear_there s p j d i e m l (Call.release t) o a h = refl
 clear_there s p j d i e m l (Call.touch t x) o a h = refl
@@ -519,19 +519,19 @@ module _ (s : Setup) (p : ℕ) (j : List ℕ) (d : Desk) (i : List ℕ) (e : Des
   AfterRel c c' r r' = Rel s p (got_after p c r.0 j) r.1 (got_after p c' r'.0 i) r'.1
 
   after_add : (named : Option ℕ) (x y : Option Refusal) → add_refusal s d named q ≡ x
-      → accepted (unless x d (add_result s d named q)).0 ≡ accepted (unless y e (add_result s e (maybe none (λ t. some (look m t)) named) q)).0
+      → accepted (unless x d (add_result s d named q)).0 ≡ accepted (unless y e (add_result s e (maybe None (λ t. Some (look m t)) named) q)).0
       → RelO s p j d i e m (Before s p d (Call.add named q) l (unless x d (add_result s d named q)))
-      → AfterRel (Call.add named q) (Call.add (maybe none (λ t. some (look m t)) named) q) (unless x d (add_result s d named q)) (unless y e (add_result s e (maybe none (λ t. some (look m t)) named) q))
-      → After (Call.add named q) (Call.add (maybe none (λ t. some (look m t)) named) q) (unless x d (add_result s d named q)) (unless y e (add_result s e (maybe none (λ t. some (look m t)) named) q))
+      → AfterRel (Call.add named q) (Call.add (maybe None (λ t. Some (look m t)) named) q) (unless x d (add_result s d named q)) (unless y e (add_result s e (maybe None (λ t. Some (look m t)) named) q))
+      → After (Call.add named q) (Call.add (maybe None (λ t. Some (look m t)) named) q) (unless x d (add_result s d named q)) (unless y e (add_result s e (maybe None (λ t. Some (look m t)) named) q))
   unfolding toi_for
-  after_add none none none h v o r = add_none s p j d i e m l q a o r
-  after_add (some t) none none h v o r = add_some s p j d i e m l q a t (loose_true s d t q h) o r
-  after_add none none (some n) h v o r = absurd (true≢false v)
-  after_add (some t) none (some n) h v o r = absurd (true≢false v)
-  after_add none (some k) none h v o r = absurd (false≢true v)
-  after_add (some t) (some k) none h v o r = absurd (false≢true v)
-  after_add none (some k) (some n) h v o r = relO_move s p j j d d i i e e m m _ _ refl refl refl refl refl r o
-  after_add (some t) (some k) (some n) h v o r = relO_move s p j j d d i i e e m m _ _ refl refl refl refl refl r o
+  after_add None None None h v o r = add_none s p j d i e m l q a o r
+  after_add (Some t) None None h v o r = add_some s p j d i e m l q a t (loose_true s d t q h) o r
+  after_add None None (Some n) h v o r = absurd (true≢false v)
+  after_add (Some t) None (Some n) h v o r = absurd (true≢false v)
+  after_add None (Some k) None h v o r = absurd (false≢true v)
+  after_add (Some t) (Some k) None h v o r = absurd (false≢true v)
+  after_add None (Some k) (Some n) h v o r = relO_move s p j j d d i i e e m m _ _ refl refl refl refl refl r o
+  after_add (Some t) (Some k) (Some n) h v o r = relO_move s p j j d d i i e e m m _ _ refl refl refl refl refl r o
 
 module _ (s : Setup) (p : ℕ) (w : 16 ≤ s.width) where
   -- after a call of the priority, made here and there
@@ -542,7 +542,7 @@ module _ (s : Setup) (p : ℕ) (w : 16 ≤ s.width) where
       (tie (step s d c).0 (step s e (through m c)).0 m) (claimed s p (step s d c).1 l)
   unfolding step claims about
   after_shown j d i e m l (Call.add named q) o a v r =
-      after_add s p j d i e m l q a named (add_refusal s d named q) (add_refusal s e (maybe none (λ t. some (look m t)) named) q) refl v o r
+      after_add s p j d i e m l q a named (add_refusal s d named q) (add_refusal s e (maybe None (λ t. Some (look m t)) named) q) refl v o r
   after_shown j d i e m l Call.reserve o a v r = absurd (false≢true a)
   after_shown j d i e m l (Call.release t) o a v r = absurd (false≢true a)
   after_shown j d i e m l (Call.touch t x) o a v r = after_quiet s p j d i e m l (Call.touch t x) refl o r
@@ -567,14 +567,14 @@ module _ (s : Setup) (p : ℕ) (w : 16 ≤ s.width) where
   -- a reservation of the priority, made here and there
   reserve_both : (j : List ℕ) (d : Desk) (i : List ℕ) (e : Desk) (m : List (ℕ × ℕ)) (l : List Call) (x y : Option Refusal)
       → (accepted (unless x d (Answer.number d.next, reserved s d)).0 && claims s p d.next (unless x d (Answer.number d.next, reserved s d)).1 l) ≡ true
-      → y ≡ none
+      → y ≡ None
       → RelO s p j d i e m (Before s p d Call.reserve l (unless x d (Answer.number d.next, reserved s d)))
       → Rel s p j (unless x d (Answer.number d.next, reserved s d)).1 i (unless y e (Answer.number e.next, reserved s e)).1
       → RelO s p j (unless x d (Answer.number d.next, reserved s d)).1 i (unless y e (Answer.number e.next, reserved s e)).1
       (tie (unless x d (Answer.number d.next, reserved s d)).0 (unless y e (Answer.number e.next, reserved s e)).0 m) (Then s p l (unless x d (Answer.number d.next, reserved s d)))
-  reserve_both j d i e m l (some n) y h v o r = absurd (false≢true h)
-  reserve_both j d i e m l none (some n) h v o r = absurd (none≢some (sym v))
-  reserve_both j d i e m l none none h v o r = record {
+  reserve_both j d i e m l (Some n) y h v o r = absurd (false≢true h)
+  reserve_both j d i e m l None (Some n) h v o r = absurd (none≢some (sym v))
+  reserve_both j d i e m l None None h v o r = record {
     rel = r;
     linked = λ t z k. (let y = has_not_last t old d.next (subst (λ n. has t n ≡ false) grown k) in ap (λ b. when b then e.next else look m t) y.1 ∙ o.linked t z y.0);
     alike_loose = reserved_loose s e ∙ ap (λ n. n ++ (e.next ∷ [])) (o.alike_loose ∙ sym (map_tie d.next e.next m old not_old))
@@ -594,7 +594,7 @@ module _ (s : Setup) (p : ℕ) (w : 16 ≤ s.width) where
       not_old : has d.next old ≡ false
       not_old = kept_has (λ t. claims s p t (reserved s d) l) d.next d.loose (next_not_loose s d o.rel.unique)
 
-  full_false : (d : Desk) (b : Bool) → accepted (unless (when b then some Because.Full else none) d (Answer.number d.next, reserved s d)).0 ≡ true → b ≡ false
+  full_false : (d : Desk) (b : Bool) → accepted (unless (when b then Some Because.Full else None) d (Answer.number d.next, reserved s d)).0 ≡ true → b ≡ false
   full_false d true h = absurd (false≢true h)
   full_false d false h = refl
 
@@ -609,7 +609,7 @@ module _ (s : Setup) (p : ℕ) (w : 16 ≤ s.width) where
   unfolding reserves about step claims reserve_refusal
   after_reserve j d i e m l Call.reserve o a h = (
     reserve_both j d i e m l (reserve_refusal d) (reserve_refusal e) h
-        (ap (λ b. when b then some Because.Full else none) (full_there s p j d i e m (λ t. claims s p t d (Call.reserve ∷ l)) o (full_false d (full d) (and_left _ _ h)))) o
+        (ap (λ b. when b then Some Because.Full else None) (full_there s p j d i e m (λ t. claims s p t d (Call.reserve ∷ l)) o (full_false d (full d) (and_left _ _ h)))) o
         (rel_there j (step s d Call.reserve).1 i e Call.reserve (rel_hidden s p w j d i e Call.reserve o.rel a) refl (λ n. refl)),
     refl,
     refl,

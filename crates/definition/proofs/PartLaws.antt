@@ -1,7 +1,7 @@
 -- Parts that share no byte, by counting: no byte is in two of them. So the parts of a desk's objects stay apart, and inside the store.
 use mathlib.Core.Path.{◌≡◌, refl, ◌∙◌, ap}
 use mathlib.Core.Bool.{Bool, false, ◌&&◌}
-use mathlib.Core.Option.{Option, none}
+use Rattle.std.specs.Prelude.{Option, None}
 use mathlib.Core.List.{List, [], ◌∷◌, map}
 use Prim.Native.Nat.{ℕ, ◌+◌, ◌≤◌, ◌<◌, min, max}
 use native.Mathlib.Omega.{arith}
@@ -122,7 +122,7 @@ pub admitted_step : (s : Setup) (d : Desk) (c : Call) → s.object_store ≤ lon
 unfolding made
 admitted_step s d c w u = each_step (Admitted s) (λ x o v. record { blocks = v.blocks; inside = v.inside; short = v.short }) s d c (λ named q e h. one named q h) u
   where
-    one : (named : Option ℕ) (q : Request) → add_refusal s d named q ≡ none → Admitted s (made s (toi_for d named) q)
+    one : (named : Option ℕ) (q : Request) → add_refusal s d named q ≡ None → Admitted s (made s (toi_for d named) q)
     one named q h =
         let a = (fits s d q.part (admissible s d named q h).part_fits).0 in
         record { blocks = blocks_fit s d named q h; inside = a; short = omega arith }

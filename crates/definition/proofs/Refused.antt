@@ -1,7 +1,7 @@
 -- A refused call leaves the desk as it was.
 use mathlib.Core.Path.{◌≡◌, refl, sym, ◌∙◌}
 use mathlib.Core.Bool.{Bool, true, false, false≢true}
-use mathlib.Core.Option.{Option, none, some}
+use Rattle.std.specs.Prelude.{Option, None, Some}
 use Rattle.sizes.specs.Words.{when◌then◌else◌, maybe, given, at}
 use Rattle.sizes.specs.declared.refusal.Refusal.TheVariants as Because
 use Rattle.sizes.specs.declared.refusal.Refusal.{Refusal}
@@ -16,21 +16,21 @@ either P true a b u v = u
 either P false a b u v = v
 
 -- what the desk has, and the desk after a call that is not refused, the desk after the call has
-pub kept : (P : Desk → Type 0) (x : Option Refusal) (d : Desk) (r : Result) → P d → (x ≡ none → P r.1) → P (unless x d r).1
-kept P none d r u h = h refl
-kept P (some n) d r u h = u
+pub kept : (P : Desk → Type 0) (x : Option Refusal) (d : Desk) (r : Result) → P d → (x ≡ None → P r.1) → P (unless x d r).1
+kept P None d r u h = h refl
+kept P (Some n) d r u h = u
 
 -- the same of the result
-pub settled : (P : Result → Type 0) (x : Option Refusal) (d : Desk) (r : Result) → ((why : Refusal) → P (Answer.refused why, d)) → (x ≡ none → P r) → P (unless x d r)
-settled P none d r u h = h refl
-settled P (some n) d r u h = u n
+pub settled : (P : Result → Type 0) (x : Option Refusal) (d : Desk) (r : Result) → ((why : Refusal) → P (Answer.refused why, d)) → (x ≡ None → P r) → P (unless x d r)
+settled P None d r u h = h refl
+settled P (Some n) d r u h = u n
 
 stays_unless : (x : Option Refusal) (d : Desk) (r : Result) → given (refusal_in r.0) ≡ false → given (refusal_in (unless x d r).0) ≡ true → (unless x d r).1 ≡ d
-stays_unless none d r h e = absurd (false≢true (sym h ∙ e))
-stays_unless (some n) d r h e = refl
+stays_unless None d r h e = absurd (false≢true (sym h ∙ e))
+stays_unless (Some n) d r h e = refl
 
 -- a question's answer is no number and no refusal
-pub plain : (d : Desk) (q : Question) → (number_in (answer_to d q) ≡ none) × (refusal_in (answer_to d q) ≡ none)
+pub plain : (d : Desk) (q : Question) → (number_in (answer_to d q) ≡ None) × (refusal_in (answer_to d q) ≡ None)
 plain d (Question.listed t) = (refl, refl)
 plain d (Question.transfers t) = (refl, refl)
 
@@ -47,5 +47,5 @@ refused_stays s d (Call.run_fdt now draft) e = stays_unless (draft_refusal s d.f
 refused_stays s d (Call.run_file i now) e = go (at d.sessions i) e
   where
     go : (x : Option Session) → given (refusal_in (maybe (Answer.refused Because.NoSession, d) (ran s now i d) x).0) ≡ true → (maybe (Answer.refused Because.NoSession, d) (ran s now i d) x).1 ≡ d
-    go none e = refl
-    go (some x) e = absurd (false≢true e)
+    go None e = refl
+    go (Some x) e = absurd (false≢true e)

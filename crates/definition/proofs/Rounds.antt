@@ -1,7 +1,7 @@
 -- A run needs no third round, and a read no more visits: a transfer that has just begun has a symbol to send.
 use mathlib.Core.Path.{◌≡◌, refl, sym, ◌∙◌, ap, subst}
 use mathlib.Core.Bool.{Bool, true, false, not, ◌&&◌, ◌||◌, false≢true, true≢false}
-use mathlib.Core.Option.{Option, none, some}
+use Rattle.std.specs.Prelude.{Option, None, Some}
 use mathlib.Core.List.{List, [], ◌∷◌, ◌++◌}
 use mathlib.Core.Logic.{inr, ⊎_elim}
 use Prim.Native.Nat.{ℕ, zero, suc, ◌+◌, ◌-◌, ◌≤◌, ◌<◌, min}
@@ -41,11 +41,11 @@ filled z l h g k i =
     (λ n. absurd (omega (arith, no_block z l (omega arith))))
     (below_or 0 l)
 
-none_open : (n i : ℕ) → n ≡ 0 → at (opened 0 n) i ≡ none
+none_open : (n i : ℕ) → n ≡ 0 → at (opened 0 n) i ≡ None
 none_open zero i e = refl
 none_open (suc n) i e = absurd (omega arith)
 
-one_open : (n : ℕ) → 1 ≤ n → at (opened 0 n) 0 ≡ some record { block = sbn 0; symbol = esi 0 }
+one_open : (n : ℕ) → 1 ≤ n → at (opened 0 n) 0 ≡ Some record { block = sbn 0; symbol = esi 0 }
 one_open zero h = absurd (omega arith)
 one_open (suc n) h = refl
 
@@ -61,7 +61,7 @@ first_read w c z b h k g = ⊎_elim full empty (below_or 0 c.size)
     x = fill w p (stopping false (fresh b))
 
     result : Option Open → Option Symbol × Encoder
-    result o = maybe (emptied c x) (λ o. when drained p o then visit 0 w c z false (without x (wrapped x)) else (let y = advanced x (wrapped x) o in (some (symbol_of c z false o y), y))) o
+    result o = maybe (emptied c x) (λ o. when drained p o then visit 0 w c z false (without x (wrapped x)) else (let y = advanced x (wrapped x) o in (Some (symbol_of c z false o y), y))) o
 
     still : wrapped x ≡ 0
     still = elim (ltb 0 (length x.window)) as (λ b. ◌≡◌ {A = ℕ} (when b then 0 else 0) 0) [ true ↦ refl | false ↦ refl ]
@@ -96,12 +96,12 @@ no_third s now b q o h k g = go b (too_early now (begin now o).pace) (reads s (b
     (rw (listed_unforced (may_stop o.plan (started o.plan now o.life))) (first_read s.window o.part o.sizes (is_last o.plan (started o.plan now o.life)) h k g))
   where
     go : (b early : Bool) (y : Option Symbol) → early ≡ false → given y ≡ true
-        → goes_again (when b then Round.over (idle q (some (begin now o))) else when early then Round.over (idle q (some (begin now o)))
-        else elim y [ none ↦ Round.again (put_back now (begin now o) q) | some y ↦ Round.over (sent q (begin now o) (reads s (begin now o)).1 y) ]) ≡ false
+        → goes_again (when b then Round.over (idle q (Some (begin now o))) else when early then Round.over (idle q (Some (begin now o)))
+        else elim y [ None ↦ Round.again (put_back now (begin now o) q) | Some y ↦ Round.over (sent q (begin now o) (reads s (begin now o)).1 y) ]) ≡ false
     go true early y a e = refl
     go false true y a e = absurd (true≢false a)
-    go false false none a e = absurd (false≢true e)
-    go false false (some y) a e = refl
+    go false false None a e = absurd (false≢true e)
+    go false false (Some y) a e = refl
 
 -- nor does an FDT that has just been asked for
 pub fdt_no_third : FdtNoThird
@@ -109,19 +109,19 @@ unfolding fdt_round fdt_in_hand_or_next fdt_round_with
 fdt_no_third s now draft taken f h k g e = rw e (go n.starts)
   where
     n : Next
-    n = next_fdt s now (when taken then none else draft) f.state
+    n = next_fdt s now (when taken then None else draft) f.state
 
     go : (x : Option Instance) → fdt_goes_again (fdt_round_with s now (taken || n.taken) n.state (fdt_begun x)) ≡ false
-    go none = refl
-    go (some i) = read_one (read s.window i.part s.sizes false (fresh false)).0 (first_read s.window i.part s.sizes false h k g)
+    go None = refl
+    go (Some i) = read_one (read s.window i.part s.sizes false (fresh false)).0 (first_read s.window i.part s.sizes false h k g)
       where
         begun : FdtHand
         begun = record { id = i.id; part = i.part; encoder = fresh false }
 
         read_one : (y : Option Symbol) → given y ≡ true
-            → fdt_goes_again (elim y [ none ↦ FdtRound.again (taken || n.taken) (record { state = fdt_done now n.state; hand = none }) | some y ↦ FdtRound.over (fdt_sent (taken || n.taken) n.state begun (read s.window i.part s.sizes false (fresh false)).1 y) ]) ≡ false
-        read_one none e = absurd (false≢true e)
-        read_one (some y) e = refl
+            → fdt_goes_again (elim y [ None ↦ FdtRound.again (taken || n.taken) (record { state = fdt_done now n.state; hand = None }) | Some y ↦ FdtRound.over (fdt_sent (taken || n.taken) n.state begun (read s.window i.part s.sizes false (fresh false)).1 y) ]) ≡ false
+        read_one None e = absurd (false≢true e)
+        read_one (Some y) e = refl
 
 -- a round that is the last comes to the same, whatever would come after
 fdt_ended : (r : FdtRound) (k : Bool → Fdt → FdtTurn) → fdt_goes_again r ≡ false → ◌≡◌ {A = FdtTurn} (elim r [ FdtRound.over t ↦ t | FdtRound.again taken f ↦ k taken f ]) (last_fdt_round r)
@@ -131,16 +131,16 @@ fdt_ended (FdtRound.again taken f) k e = absurd (true≢false e)
 -- nothing is in hand where the session goes round again
 abbrev Released : FdtRound → Type 0
 Released (FdtRound.over t) = Unit {0}
-Released (FdtRound.again taken f) = f.hand ≡ none
+Released (FdtRound.again taken f) = f.hand ≡ None
 
 released : (s : Setup) (now : ℕ) (taken : Bool) (f : FdtState) (h : Option FdtHand) → Released (fdt_round_with s now taken f h)
 unfolding fdt_round_with
-released s now taken f none = tt
-released s now taken f (some h) = go (read s.window h.part s.sizes false h.encoder).0
+released s now taken f None = tt
+released s now taken f (Some h) = go (read s.window h.part s.sizes false h.encoder).0
   where
-    go : (y : Option Symbol) → Released (elim y [ none ↦ FdtRound.again taken (record { state = fdt_done now f; hand = none }) | some y ↦ FdtRound.over (fdt_sent taken f h (read s.window h.part s.sizes false h.encoder).1 y) ])
-    go none = refl
-    go (some y) = tt
+    go : (y : Option Symbol) → Released (elim y [ None ↦ FdtRound.again taken (record { state = fdt_done now f; hand = None }) | Some y ↦ FdtRound.over (fdt_sent taken f h (read s.window h.part s.sizes false h.encoder).1 y) ])
+    go None = refl
+    go (Some y) = tt
 
 -- so with more rounds its run comes to the same
 pub fdt_rounds_enough : FdtRoundsEnough
@@ -169,7 +169,7 @@ module _ (p : Partition) where
   spent_le [] = omega arith
   spent_le (o ∷ l) = let h = spent_le l in elim (drained p o) as (λ b. (when b then 1 else 0) + spent l ≤ suc (length l)) [ true ↦ omega arith | false ↦ omega arith ]
 
-  spent_cut : (l : List Open) (i : ℕ) (o : Open) → at l i ≡ some o → drained p o ≡ true → spent l ≡ suc (spent (cut l i))
+  spent_cut : (l : List Open) (i : ℕ) (o : Open) → at l i ≡ Some o → drained p o ≡ true → spent l ≡ suc (spent (cut l i))
   unfolding spent
   spent_cut [] i o e h = absurd (none≢some e)
   spent_cut (x ∷ l) zero o e h = let z : x ≡ o = cc in let y : drained p x ≡ true = ap (drained p) z ∙ h in rw y (omega arith)
@@ -193,24 +193,24 @@ module _ (w : ℕ) (c : Part) (z : Sizes) (force : Bool) (f : Filled (blocks_of 
   left x = spent (blocks_of z c.size) x.window
 
   turn : Encoder → Option Symbol × Encoder → Option Open → Option Symbol × Encoder
-  turn y again o = maybe (emptied c y) (λ o. when drained (blocks_of z c.size) o then again else (let y' = advanced y (wrapped y) o in (some (symbol_of c z force o y'), y'))) o
+  turn y again o = maybe (emptied c y) (λ o. when drained (blocks_of z c.size) o then again else (let y' = advanced y (wrapped y) o in (Some (symbol_of c z force o y'), y'))) o
 
   one_turn : (k : ℕ) (x : Encoder) → visit (suc k) w c z force x
       ≡ turn (fill w (blocks_of z c.size) x) (visit k w c z force (without (fill w (blocks_of z c.size) x) (wrapped (fill w (blocks_of z c.size) x)))) (at (fill w (blocks_of z c.size) x).window (wrapped (fill w (blocks_of z c.size) x)))
   unfolding visit turn
   one_turn k x = refl
 
-  fewer_left : (x : Encoder) (o : Open) → at (fill w (blocks_of z c.size) x).window (wrapped (fill w (blocks_of z c.size) x)) ≡ some o → drained (blocks_of z c.size) o ≡ true
+  fewer_left : (x : Encoder) (o : Open) → at (fill w (blocks_of z c.size) x).window (wrapped (fill w (blocks_of z c.size) x)) ≡ Some o → drained (blocks_of z c.size) o ≡ true
       → left x ≡ suc (left (without (fill w (blocks_of z c.size) x) (wrapped (fill w (blocks_of z c.size) x))))
   unfolding left without
   fewer_left x o e h = sym (spent_fill (blocks_of z c.size) f w x) ∙ spent_cut (blocks_of z c.size) (fill w (blocks_of z c.size) x).window (wrapped (fill w (blocks_of z c.size) x)) o e h
 
-  same_turn : (y : Encoder) (A B : Option Symbol × Encoder) (o : Option Open) → ((v : Open) → o ≡ some v → drained (blocks_of z c.size) v ≡ true → A ≡ B) → turn y A o ≡ turn y B o
+  same_turn : (y : Encoder) (A B : Option Symbol × Encoder) (o : Option Open) → ((v : Open) → o ≡ Some v → drained (blocks_of z c.size) v ≡ true → A ≡ B) → turn y A o ≡ turn y B o
   unfolding turn
-  same_turn y A B none h = refl
-  same_turn y A B (some v) h = (elim (drained (blocks_of z c.size) v) as (λ b. drained (blocks_of z c.size) v ≡ b
-      → (when b then A else (let y' = advanced y (wrapped y) v in (some (symbol_of c z force v y'), y')))
-      ≡ (when b then B else (let y' = advanced y (wrapped y) v in (some (symbol_of c z force v y'), y'))))
+  same_turn y A B None h = refl
+  same_turn y A B (Some v) h = (elim (drained (blocks_of z c.size) v) as (λ b. drained (blocks_of z c.size) v ≡ b
+      → (when b then A else (let y' = advanced y (wrapped y) v in (Some (symbol_of c z force v y'), y')))
+      ≡ (when b then B else (let y' = advanced y (wrapped y) v in (Some (symbol_of c z force v y'), y'))))
       [ true ↦ λ e. h v refl e | false ↦ λ e. refl ]) refl
 
   -- however many more are allowed, the outcome is the same
@@ -230,5 +230,5 @@ module _ (w : ℕ) (c : Part) (z : Sizes) (force : Bool) (f : Filled (blocks_of 
 pub visits_enough : VisitsEnough
 unfolding read_longer read stopping
 visits_enough n w c z force x h g = elim x.stopped
-    as (λ b. (when b then (none, x) else visit (suc (length x.window + n)) w c z force (stopping force x)) ≡ (when b then (none, x) else visit (suc (length x.window)) w c z force (stopping force x)))
+    as (λ b. (when b then (None, x) else visit (suc (length x.window + n)) w c z force (stopping force x)) ≡ (when b then (None, x) else visit (suc (length x.window)) w c z force (stopping force x)))
     [ true ↦ refl | false ↦ turns_enough w c z force (filled z c.size h g) (length x.window + n) (stopping force x) (omega arith) ]

@@ -1,7 +1,7 @@
 -- What a touch leaves: each touch has a row in three laws here, and every other proof is about all touches at once.
 use mathlib.Core.Path.{◌≡◌, refl, ap}
 use mathlib.Core.Bool.{Bool, true, false, not}
-use mathlib.Core.Option.{Option, none, some}
+use Rattle.std.specs.Prelude.{Option, None, Some}
 use mathlib.Core.List.{List, [], ◌∷◌, map}
 use Prim.Native.Nat.{ℕ}
 use Rattle.sizes.specs.Words.{when◌then◌else◌, maybe, over, keep, collect, Each}
@@ -14,8 +14,8 @@ use Rattle.definition.proofs.View.{retag, retag_held, seen}
 
 -- an object that waits is gone, or has another life
 pub data Waiting (o : Object) : Option Object → Type 0 where
-  gone : Waiting o none
-  lives : (l : Life) → Waiting o (some (living l o))
+  gone : Waiting o None
+  lives : (l : Life) → Waiting o (Some (living l o))
 
 waiting_kept : (x : Touch) (o : Object) → Waiting o (waiting_after x o)
 waiting_kept Touch.remove o = gone
@@ -23,7 +23,7 @@ waiting_kept (Touch.trigger f) o = lives (triggered f o.life)
 
 pub touched_kept : (t : ℕ) (x : Touch) (o : Object) → Waiting o (touched_waiting t x o)
 unfolding touched_waiting
-touched_kept t x o = either (Waiting o) (is t o) (waiting_after x o) (some o) (waiting_kept x o) (lives o.life)
+touched_kept t x o = either (Waiting o) (is t o) (waiting_after x o) (Some o) (waiting_kept x o) (lives o.life)
 
 -- what is in hand has another life at most, and the same encoder
 pub record HandKept (h k : Hand) : Type 0 where
@@ -48,7 +48,7 @@ renumbered_after f (Touch.trigger u) = (λ o. refl, λ h. refl)
 
 module _ {A : Type 0} (g : A → Option A) where
   -- where each stays, the list does
-  pub collect_still : (l : List A) → Each (λ a. g a ≡ some a) l → collect g l ≡ l
+  pub collect_still : (l : List A) → Each (λ a. g a ≡ Some a) l → collect g l ≡ l
   collect_still [] u = refl
   collect_still (a ∷ l) u = rw u.0 (ap (λ r. a ∷ r) (collect_still l u.1))
 
@@ -76,11 +76,11 @@ module _ (g : Object → Option Object) (k : (o : Object) → Waiting o (g o)) w
         go false e y (lives l) c r = rw e r
 
     -- where none of the priority's is touched, nothing shows
-    pub seen_still : (q : List Object) → Each (λ o. mine p o ≡ true → g o ≡ some o) q → seen p f (collect g q) ≡ seen p f q
+    pub seen_still : (q : List Object) → Each (λ o. mine p o ≡ true → g o ≡ Some o) q → seen p f (collect g q) ≡ seen p f q
     seen_still [] u = refl
     seen_still (o ∷ q) u = go (mine p o) refl (g o) (k o) u.0 (seen_still q u.1)
       where
-        go : (b : Bool) → mine p o ≡ b → (y : Option Object) → Waiting o y → (mine p o ≡ true → y ≡ some o) → seen p f (collect g q) ≡ seen p f q
+        go : (b : Bool) → mine p o ≡ b → (y : Option Object) → Waiting o y → (mine p o ≡ true → y ≡ Some o) → seen p f (collect g q) ≡ seen p f q
             → seen p f (maybe (collect g q) (λ z. z ∷ collect g q) y) ≡ (when b then retag f o ∷ seen p f q else seen p f q)
         go true e y w c r = rw (c e) (rw e (ap (λ z. retag f o ∷ z) r))
         go false e y gone c r = r
@@ -92,7 +92,7 @@ module _ (g : Object → Option Object) (k : (o : Object) → Waiting o (g o)) w
 pub removed_waiting : (t : ℕ) (q : List Object) → collect (touched_waiting t Touch.remove) q ≡ keep (λ o. not (is t o)) q
 unfolding touched_waiting
 removed_waiting t [] = refl
-removed_waiting t (o ∷ q) = elim (is t o) as (λ b. maybe (collect (touched_waiting t Touch.remove) q) (λ z. z ∷ collect (touched_waiting t Touch.remove) q) (when b then none else some o) ≡ (when not b then o ∷ keep (λ o. not (is t o)) q else keep (λ o. not (is t o)) q))
+removed_waiting t (o ∷ q) = elim (is t o) as (λ b. maybe (collect (touched_waiting t Touch.remove) q) (λ z. z ∷ collect (touched_waiting t Touch.remove) q) (when b then None else Some o) ≡ (when not b then o ∷ keep (λ o. not (is t o)) q else keep (λ o. not (is t o)) q))
     [ true ↦ removed_waiting t q | false ↦ ap (λ r. o ∷ r) (removed_waiting t q) ]
 
 -- triggered: one that waits, and none in transfer
@@ -102,7 +102,7 @@ prompted t f o = when is t o then living (triggered f o.life) o else o
 pub prompted_waiting : (t : ℕ) (f : Option ℕ) (q : List Object) → collect (touched_waiting t (Touch.trigger f)) q ≡ map (prompted t f) q
 unfolding touched_waiting prompted
 prompted_waiting t f [] = refl
-prompted_waiting t f (o ∷ q) = elim (is t o) as (λ b. maybe (collect (touched_waiting t (Touch.trigger f)) q) (λ z. z ∷ collect (touched_waiting t (Touch.trigger f)) q) (when b then some (living (triggered f o.life) o) else some o) ≡ (when b then living (triggered f o.life) o else o) ∷ map (prompted t f) q)
+prompted_waiting t f (o ∷ q) = elim (is t o) as (λ b. maybe (collect (touched_waiting t (Touch.trigger f)) q) (λ z. z ∷ collect (touched_waiting t (Touch.trigger f)) q) (when b then Some (living (triggered f o.life) o) else Some o) ≡ (when b then living (triggered f o.life) o else o) ∷ map (prompted t f) q)
     [ true ↦ ap (λ r. living (triggered f o.life) o ∷ r) (prompted_waiting t f q) | false ↦ ap (λ r. o ∷ r) (prompted_waiting t f q) ]
 
 pub prompted_hands : (t : ℕ) (f : Option ℕ) (l : List Session) → map (in_hand (touched_hand t (Touch.trigger f))) l ≡ l
@@ -110,6 +110,6 @@ unfolding in_hand touched_hand
 prompted_hands t f [] = refl
 prompted_hands t f (x ∷ l) = λ i. record { priority = x.priority; hand = same x.hand i } ∷ prompted_hands t f l i
   where
-    same : (h : Option Hand) → maybe none (λ h. some (when is t h.object then h else h)) h ≡ h
-    same none = refl
-    same (some h) = elim (is t h.object) as (λ b. some (when b then h else h) ≡ some h) [ true ↦ refl | false ↦ refl ]
+    same : (h : Option Hand) → maybe None (λ h. Some (when is t h.object then h else h)) h ≡ h
+    same None = refl
+    same (Some h) = elim (is t h.object) as (λ b. Some (when b then h else h) ≡ Some h) [ true ↦ refl | false ↦ refl ]

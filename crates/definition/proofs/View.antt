@@ -1,7 +1,7 @@
 -- The desk as one priority sees it: the others' objects gone, each object number put through f.
 use mathlib.Core.Path.{◌≡◌, refl, sym, ◌∙◌, ap}
 use mathlib.Core.Bool.{Bool, true, false, not, ◌&&◌, true≢false}
-use mathlib.Core.Option.{Option, none, some}
+use Rattle.std.specs.Prelude.{Option, None, Some}
 use mathlib.Core.List.{List, [], ◌∷◌, ◌++◌, map}
 use Prim.Native.Nat.{ℕ}
 use lib.Dec.{eqb}
@@ -26,8 +26,8 @@ retag_held f h = record { object = retag f h.object; listed = h.listed; encoder 
 
 -- what a session sends has the priority
 abbrev pub Sends : ℕ → Option Hand → Type 0
-Sends p none = Unit {0}
-Sends p (some h) = mine p h.object ≡ true
+Sends p None = Unit {0}
+Sends p (Some h) = mine p h.object ≡ true
 
 module _ (p : ℕ) (f : ℕ → ℕ) where
   -- the priority's objects of a list
@@ -37,7 +37,7 @@ module _ (p : ℕ) (f : ℕ → ℕ) where
 
   -- a session: another priority's is empty
   abbrev pub see : Session → Session
-  see x = record { priority = x.priority; hand = when eqb x.priority p then perhaps (retag_held f) x.hand else none }
+  see x = record { priority = x.priority; hand = when eqb x.priority p then perhaps (retag_held f) x.hand else None }
 
   pub seen_append : (a b : List Object) → seen (a ++ b) ≡ seen a ++ seen b
   seen_append [] b = refl
@@ -56,10 +56,10 @@ module _ (p : ℕ) (f : ℕ → ℕ) where
 
   pub seen_find : (ok ok' : Object → Bool) (q : List Object) → Each (Alike ok ok') q → find ok' (seen q) ≡ perhaps (retag f) (find ok q)
   seen_find ok ok' [] u = refl
-  seen_find ok ok' (o ∷ q) u = (elim (mine p o) as (λ t. mine p o ≡ t → find ok' (when t then retag f o ∷ seen q else seen q) ≡ perhaps (retag f) (when ok o then some o else find ok q)) [
-    | true ↦ λ e. rw (u.0.0 e) (elim (ok o) as (λ b. (when b then some (retag f o) else find ok' (seen q)) ≡ perhaps (retag f) (when b then some o else find ok q))
+  seen_find ok ok' (o ∷ q) u = (elim (mine p o) as (λ t. mine p o ≡ t → find ok' (when t then retag f o ∷ seen q else seen q) ≡ perhaps (retag f) (when ok o then Some o else find ok q)) [
+    | true ↦ λ e. rw (u.0.0 e) (elim (ok o) as (λ b. (when b then Some (retag f o) else find ok' (seen q)) ≡ perhaps (retag f) (when b then Some o else find ok q))
         [ true ↦ refl | false ↦ seen_find ok ok' q u.1 ])
-    | false ↦ λ e. (elim (ok o) as (λ b. ok o ≡ b → find ok' (seen q) ≡ perhaps (retag f) (when b then some o else find ok q))
+    | false ↦ λ e. (elim (ok o) as (λ b. ok o ≡ b → find ok' (seen q) ≡ perhaps (retag f) (when b then Some o else find ok q))
         [ true ↦ λ k. absurd (true≢false (sym (u.0.1 k) ∙ e)) | false ↦ λ k. seen_find ok ok' q u.1 ]) refl
   ]) refl
 
@@ -105,32 +105,32 @@ module _ (p : ℕ) (f : ℕ → ℕ) where
     with_seen q h e = go b (too_early now h.pace) (reads s h).0
       where
         go : (b early : Bool) (y : Option Symbol)
-            → (when b then over (idle (seen q) (some (retag_held f h))) else when early then over (idle (seen q) (some (retag_held f h)))
-            else elim y [ none ↦ again (put_back now (retag_held f h) (seen q)) | some y ↦ over (sent (seen q) (retag_held f h) (reads s h).1 y) ])
-            ≡ see_round (when b then over (idle q (some h)) else when early then over (idle q (some h)) else elim y [ none ↦ again (put_back now h q) | some y ↦ over (sent q h (reads s h).1 y) ])
+            → (when b then over (idle (seen q) (Some (retag_held f h))) else when early then over (idle (seen q) (Some (retag_held f h)))
+            else elim y [ None ↦ again (put_back now (retag_held f h) (seen q)) | Some y ↦ over (sent (seen q) (retag_held f h) (reads s h).1 y) ])
+            ≡ see_round (when b then over (idle q (Some h)) else when early then over (idle q (Some h)) else elim y [ None ↦ again (put_back now h q) | Some y ↦ over (sent q h (reads s h).1 y) ])
         go true early y = refl
         go false true y = refl
-        go false false none = ap again (back_seen now h q e)
-        go false false (some y) = refl
+        go false false None = ap again (back_seen now h q e)
+        go false false (Some y) = refl
 
     round_seen : (q : List Object) (h : Option Hand) → Sends p h → round s p now b (seen q) (perhaps (retag_held f) h) ≡ see_round (round s p now b q h)
     unfolding round in_hand_or_next begin startable
-    round_seen q (some h) u = with_seen q h u
-    round_seen q none u =
+    round_seen q (Some h) u = with_seen q h u
+    round_seen q None u =
         (λ i. goes (seen q) (seen_drop (startable p now) (startable p now) q (startable_alike now q) i) (seen_find (startable p now) (startable p now) q (startable_alike now q) i)) ∙ go (find (startable p now) q) refl
       where
         next : List Object → List Object → Option Object → Option Hand × List Object
-        next q rest x = elim x [ none ↦ (none, q) | some o ↦ (some (begin now o), rest) ]
+        next q rest x = elim x [ None ↦ (None, q) | Some o ↦ (Some (begin now o), rest) ]
 
         goes : List Object → List Object → Option Object → Round
-        goes q rest x = elim (next q rest x).0 [ none ↦ over (idle (next q rest x).1 none) | some h ↦ round_with s now b (next q rest x).1 h ]
+        goes q rest x = elim (next q rest x).0 [ None ↦ over (idle (next q rest x).1 None) | Some h ↦ round_with s now b (next q rest x).1 h ]
 
         rest : List Object
         rest = drop_first (startable p now) q
 
         go : (x : Option Object) → find (startable p now) q ≡ x → goes (seen q) (seen rest) (perhaps (retag f) x) ≡ see_round (goes q rest x)
-        go none e = refl
-        go (some o) e = with_seen rest (begin now o) (and_left (eqb o.priority p) (may_start o.plan now o.life) (found (startable p now) q o e))
+        go None e = refl
+        go (Some o) e = with_seen rest (begin now o) (and_left (eqb o.priority p) (may_start o.plan now o.life) (found (startable p now) q o e))
 
     last_seen : (r : Round) → last_round (see_round r) ≡ see_turn (last_round r)
     last_seen (over t) = refl
@@ -140,12 +140,12 @@ module _ (p : ℕ) (f : ℕ → ℕ) where
   pub file_run_seen : (s : Setup) (now : ℕ) (b : Bool) (q : List Object) (h : Option Hand) → Sends p h
       → file_run s p now b (seen q) (perhaps (retag_held f) h) ≡ see_turn (file_run s p now b q h)
   unfolding file_run
-  file_run_seen s now b q none u = ap last_round (round_seen s now b q none u) ∙ last_seen s now b (round s p now b q none)
-  file_run_seen s now b q (some h) u = ap second (round_seen s now b q (some h) u) ∙ go (round s p now b q (some h))
+  file_run_seen s now b q None u = ap last_round (round_seen s now b q None u) ∙ last_seen s now b (round s p now b q None)
+  file_run_seen s now b q (Some h) u = ap second (round_seen s now b q (Some h) u) ∙ go (round s p now b q (Some h))
     where
       second : Round → Turn
-      second r = elim r [ over t ↦ t | again q' ↦ last_round (round s p now b q' none) ]
+      second r = elim r [ over t ↦ t | again q' ↦ last_round (round s p now b q' None) ]
 
       go : (r : Round) → second (see_round r) ≡ see_turn (second r)
       go (over t) = refl
-      go (again q') = ap last_round (round_seen s now b q' none tt) ∙ last_seen s now b (round s p now b q' none)
+      go (again q') = ap last_round (round_seen s now b q' None tt) ∙ last_seen s now b (round s p now b q' None)

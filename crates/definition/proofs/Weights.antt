@@ -1,7 +1,7 @@
 -- Sums over the objects of a desk: for any weight that does not read an object's life, no call but an add makes the sum larger.
 use mathlib.Core.Path.{◌≡◌, refl, sym, ap, ◌∙◌}
 use mathlib.Core.Bool.{Bool, true, false, not, ◌&&◌}
-use mathlib.Core.Option.{Option, none, some}
+use Rattle.std.specs.Prelude.{Option, None, Some}
 use mathlib.Core.List.{List, [], ◌∷◌, ◌++◌, map}
 use Prim.Native.Nat.{ℕ, zero, suc, ◌+◌, ◌≤◌}
 use native.Mathlib.Omega.{arith}
@@ -43,9 +43,9 @@ module _ {A : Type 0} (w : A → ℕ) where
   total_map f h (a ∷ l) = let e = h a in let r = total_map f h l in omega arith
 
   -- the first that passes is taken out
-  pub total_take : (ok : A → Bool) (l : List A) (a : A) → find ok l ≡ some a → total w (drop_first ok l) + w a ≡ total w l
+  pub total_take : (ok : A → Bool) (l : List A) (a : A) → find ok l ≡ Some a → total w (drop_first ok l) + w a ≡ total w l
   total_take ok [] a e = absurd (none≢some e)
-  total_take ok (b ∷ l) a e = (elim (ok b) as (λ t. (when t then some b else find ok l) ≡ some a → total w (when t then l else b ∷ drop_first ok l) + w a ≡ w b + total w l) [
+  total_take ok (b ∷ l) a e = (elim (ok b) as (λ t. (when t then Some b else find ok l) ≡ Some a → total w (when t then l else b ∷ drop_first ok l) + w a ≡ w b + total w l) [
     | true ↦ λ e. (let s : b ≡ a = cc in let z = ap w s in omega arith)
     | false ↦ λ e. (let h = total_take ok l a e in omega arith)
   ]) e
@@ -69,7 +69,7 @@ total_length (a ∷ l) = let h = total_length l in omega arith
 -- a call is an add, or it is none
 pub data Sort (c : Call) : Type 0 where
   an_add : (named : Option ℕ) (q : Request) → c ≡ Call.add named q → Sort c
-  another : adding c ≡ none → Sort c
+  another : adding c ≡ None → Sort c
 
 pub sort_of : (c : Call) → Sort c
 sort_of (Call.add named q) = an_add named q refl
@@ -87,15 +87,15 @@ pub none_yet : (s : Setup) → objects (opening s) ≡ []
 unfolding opening objects in_hands
 none_yet s = empty s.priorities
   where
-    empty : (l : List ℕ) → in_hands (map (λ p. record { priority = p; hand = none }) l) ≡ []
+    empty : (l : List ℕ) → in_hands (map (λ p. record { priority = p; hand = None }) l) ≡ []
     empty [] = refl
     empty (p ∷ l) = empty l
 
 module _ (w : Object → ℕ) where
   -- the weight of what a session has in hand
   abbrev load : Option Hand → ℕ
-  load none = 0
-  load (some h) = w h.object
+  load None = 0
+  load (Some h) = w h.object
 
   -- of a queue and one session
   abbrev weight : Turn → ℕ
@@ -104,10 +104,10 @@ module _ (w : Object → ℕ) where
   hands_cons : (x : Session) (l : List Session) → total w (in_hands (x ∷ l)) ≡ load x.hand + total w (in_hands l)
   unfolding in_hands
   hands_cons x l =
-      elim x.hand as (λ (h : Option Hand). total w (maybe (in_hands l) (λ b. b ∷ in_hands l) (maybe none (λ (h : Hand). some h.object) h)) ≡ load h + total w (in_hands l))
-      [ none ↦ omega arith | some h ↦ refl ]
+      elim x.hand as (λ (h : Option Hand). total w (maybe (in_hands l) (λ b. b ∷ in_hands l) (maybe None (λ (h : Hand). Some h.object) h)) ≡ load h + total w (in_hands l))
+      [ None ↦ omega arith | Some h ↦ refl ]
 
-  hands_set : (l : List Session) (i : ℕ) (x y : Session) → at l i ≡ some x
+  hands_set : (l : List Session) (i : ℕ) (x y : Session) → at l i ≡ Some x
       → total w (in_hands (set l i y)) + load x.hand ≡ total w (in_hands l) + load y.hand
   hands_set [] i x y e = absurd (none≢some e)
   hands_set (z ∷ l) zero x y e =
@@ -129,9 +129,9 @@ module _ (w : Object → ℕ) where
       let c = hands_map f k l in
       let e = same x.hand in omega arith
     where
-      same : (h : Option Hand) → load (maybe none (λ h. some (f h)) h) ≡ load h
-      same none = refl
-      same (some h) = k h
+      same : (h : Option Hand) → load (maybe None (λ h. Some (f h)) h) ≡ load h
+      same None = refl
+      same (Some h) = k h
 
   pub total_objects : (d : Desk) → total w (objects d) ≡ total w d.queue + total w (in_hands d.sessions)
   unfolding objects
@@ -148,8 +148,8 @@ module _ (w : Object → ℕ) where
   -- whether it names a reservation or not
   pub total_reserved : (s : Setup) (d : Desk) (named : Option ℕ) → total w (objects (when given named then d else reserved s d)) ≡ total w (objects d)
   unfolding reserved numbered objects
-  total_reserved s d none = refl
-  total_reserved s d (some t) = refl
+  total_reserved s d None = refl
+  total_reserved s d (Some t) = refl
 
   moved_lighter : (d : Desk) (q : List Object) (l : List Session)
       → total w q + total w (in_hands l) ≤ total w d.queue + total w (in_hands d.sessions) → total w (objects (moved d q l)) ≤ total w (objects d)
@@ -195,7 +195,7 @@ module _ (w : Object → ℕ) where
         go y (lives l) r = let h = stable l o in omega arith
 
     -- a call that is no add makes no sum larger
-    pub lighter : (s : Setup) (d : Desk) (c : Call) → adding c ≡ none → total w (objects (step s d c).1) ≤ total w (objects d)
+    pub lighter : (s : Setup) (d : Desk) (c : Call) → adding c ≡ None → total w (objects (step s d c).1) ≤ total w (objects d)
     unfolding step reserved numbered touched ran fdt_ran with_fdt objects
     lighter s d Call.reserve k = kept (λ e. total w (objects e) ≤ total w (objects d)) (reserve_refusal d) d _ (omega arith) (λ e. omega arith)
     lighter s d (Call.release t) k = kept (λ e. total w (objects e) ≤ total w (objects d)) (release_refusal d t) d _ (omega arith) (λ e. omega arith)
@@ -214,8 +214,8 @@ module _ (w : Object → ℕ) where
     lighter s d (Call.run_file i now) k = go (at d.sessions i) refl
       where
         go : (x : Option Session) → at d.sessions i ≡ x → total w (objects (maybe (Answer.refused Because.NoSession, d) (ran s now i d) x).1) ≤ total w (objects d)
-        go none e = omega arith
-        go (some x) e =
+        go None e = omega arith
+        go (Some x) e =
             let r = file_run s x.priority now (fdt_queued d) d.queue x.hand in
             let y : Session = record { priority = x.priority; hand = r.hand } in
             moved_lighter d r.queue (set d.sessions i y) (
@@ -224,7 +224,7 @@ module _ (w : Object → ℕ) where
 
     -- so a bound is kept, if what an add admits keeps it
     pub bound_step : (b : ℕ) (s : Setup) (d : Desk) (c : Call)
-        → ((named : Option ℕ) (q : Request) → add_refusal s d named q ≡ none → total w (objects d) + w (made s (toi_for d named) q) ≤ b)
+        → ((named : Option ℕ) (q : Request) → add_refusal s d named q ≡ None → total w (objects d) + w (made s (toi_for d named) q) ≤ b)
         → total w (objects d) ≤ b → total w (objects (step s d c).1) ≤ b
     unfolding step
     bound_step b s d c k u = go c (sort_of c)

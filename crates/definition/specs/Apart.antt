@@ -1,6 +1,6 @@
 -- Demand 3, stated: what one priority's callers ask and are told, and that nothing else has a say in it.
 use Rattle.std.specs.Prelude.{◌≡◌, Bool, true, false, not, ◌&&◌, ◌||◌, List, [], ◌∷◌, ℕ, suc, eqb, length}
-use Rattle.std.proofs.Math.Option.{Option, none, some}
+use Rattle.std.specs.Prelude.{Option, None, Some}
 use Rattle.sizes.specs.Words.{when◌then◌else◌, maybe, given, any, at, has}
 use Rattle.sizes.specs.declared.refusal.Refusal.{Refusal}
 use Rattle.sizes.specs.Refusals.{refusal_number}
@@ -39,15 +39,15 @@ about p d (Call.run_file i now) = maybe false (λ (x : Session). eqb x.priority 
 
 -- what an add asks for: the reservation that it names, and the request
 abbrev pub adding : Call → Option (Option ℕ × Request)
-adding (Call.add named q) = some (named, q)
-adding Call.reserve = none
-adding (Call.release t) = none
-adding (Call.touch t x) = none
-adding (Call.ask q) = none
-adding Call.complete = none
-adding (Call.publish now c) = none
-adding (Call.run_fdt now draft) = none
-adding (Call.run_file i now) = none
+adding (Call.add named q) = Some (named, q)
+adding Call.reserve = None
+adding (Call.release t) = None
+adding (Call.touch t x) = None
+adding (Call.ask q) = None
+adding Call.complete = None
+adding (Call.publish now c) = None
+adding (Call.run_fdt now draft) = None
+adding (Call.run_file i now) = None
 
 -- is it an add of the priority
 abbrev pub adds : ℕ → Call → Bool
@@ -55,22 +55,22 @@ adds p c = maybe false (λ x. eqb x.1.priority p) (adding c)
 
 -- the number that an answer gives, and the refusal that it is
 abbrev pub number_in : Answer → Option ℕ
-number_in (Answer.number t) = some t
-number_in (Answer.refused n) = none
-number_in Answer.done = none
-number_in (Answer.truth b) = none
-number_in (Answer.transferred n) = none
-number_in (Answer.fdt_output b k) = none
-number_in (Answer.output k) = none
+number_in (Answer.number t) = Some t
+number_in (Answer.refused n) = None
+number_in Answer.done = None
+number_in (Answer.truth b) = None
+number_in (Answer.transferred n) = None
+number_in (Answer.fdt_output b k) = None
+number_in (Answer.output k) = None
 
 abbrev pub refusal_in : Answer → Option Refusal
-refusal_in (Answer.refused n) = some n
-refusal_in (Answer.number t) = none
-refusal_in Answer.done = none
-refusal_in (Answer.truth b) = none
-refusal_in (Answer.transferred n) = none
-refusal_in (Answer.fdt_output b k) = none
-refusal_in (Answer.output k) = none
+refusal_in (Answer.refused n) = Some n
+refusal_in (Answer.number t) = None
+refusal_in Answer.done = None
+refusal_in (Answer.truth b) = None
+refusal_in (Answer.transferred n) = None
+refusal_in (Answer.fdt_output b k) = None
+refusal_in (Answer.output k) = None
 
 -- was the call not refused
 abbrev pub accepted : Answer → Bool
@@ -106,15 +106,15 @@ renumbered f g (Call.run_file i now) = Call.run_file i now
 
 -- the number that an add names need not match
 abbrev pub call_by : (ℕ → ℕ) → Call → Call
-call_by f = renumbered f (λ named. none)
+call_by f = renumbered f (λ named. None)
 
 -- an FDT's packet keeps its 0
 abbrev pub packet_by : (ℕ → ℕ) → Packet → Packet
 packet_by f k = record { id = k.id; toi = when given k.id then k.toi else f k.toi; symbol = k.symbol }
 
 abbrev pub perhaps_by : (ℕ → ℕ) → Option Packet → Option Packet
-perhaps_by f none = none
-perhaps_by f (some k) = some (packet_by f k)
+perhaps_by f None = None
+perhaps_by f (Some k) = Some (packet_by f k)
 
 abbrev pub answer_by : (ℕ → ℕ) → Answer → Answer
 answer_by f (Answer.refused n) = Answer.refused n
@@ -136,7 +136,7 @@ bars why = has (refusal_number why) barred
 
 -- was the call refused by one of them
 abbrev pub is_barred : Answer → Bool
-is_barred a = elim (refusal_in a) [ none ↦ false | some why ↦ bars why ]
+is_barred a = elim (refusal_in a) [ None ↦ false | Some why ↦ bars why ]
 
 -- an add of the priority that meets refusal 5, 6 or 7. None of its other calls can: a release of an object's number (6) and a reservation that is not made (7) are about nobody
 abbrev pub turned_away : ℕ → Call → Answer → Bool
@@ -175,14 +175,14 @@ module _ (s : Setup) (p : ℕ) where
 -- the reservation that a call ends if it is not refused
 abbrev pub ending : Call → Option ℕ
 ending (Call.add named q) = named
-ending (Call.release t) = some t
-ending Call.reserve = none
-ending (Call.touch t x) = none
-ending (Call.ask q) = none
-ending Call.complete = none
-ending (Call.publish now c) = none
-ending (Call.run_fdt now draft) = none
-ending (Call.run_file i now) = none
+ending (Call.release t) = Some t
+ending Call.reserve = None
+ending (Call.touch t x) = None
+ending (Call.ask q) = None
+ending Call.complete = None
+ending (Call.publish now c) = None
+ending (Call.run_fdt now draft) = None
+ending (Call.run_file i now) = None
 
 -- does the call end the reservation of t
 abbrev pub ends : ℕ → Call → Answer → Bool
@@ -190,19 +190,19 @@ ends t c a = maybe false (λ u. accepted a && eqb u t) (ending c)
 
 -- the number that a question, and a call, asks after
 abbrev pub asked_after : Question → Option ℕ
-asked_after (Question.listed t) = some t
-asked_after (Question.transfers t) = some t
+asked_after (Question.listed t) = Some t
+asked_after (Question.transfers t) = Some t
 
 abbrev pub asked : Call → Option ℕ
-asked (Call.touch t x) = some t
+asked (Call.touch t x) = Some t
 asked (Call.ask q) = asked_after q
-asked Call.reserve = none
-asked (Call.release t) = none
-asked (Call.add named q) = none
-asked Call.complete = none
-asked (Call.publish now c) = none
-asked (Call.run_fdt now draft) = none
-asked (Call.run_file i now) = none
+asked Call.reserve = None
+asked (Call.release t) = None
+asked (Call.add named q) = None
+asked Call.complete = None
+asked (Call.publish now c) = None
+asked (Call.run_fdt now draft) = None
+asked (Call.run_file i now) = None
 
 -- the number there of what has number t here, latest first
 abbrev pub look : List (ℕ × ℕ) → ℕ → ℕ
@@ -211,7 +211,7 @@ look (r ∷ l) t = when eqb r.0 t then r.1 else look l t
 
 -- the call, with the numbers there
 abbrev pub through : List (ℕ × ℕ) → Call → Call
-through m = renumbered (look m) (maybe none (λ t. some (look m t)))
+through m = renumbered (look m) (maybe None (λ t. Some (look m t)))
 
 -- what two answers give a number is one thing here and there
 abbrev pub tie : Answer → Answer → List (ℕ × ℕ) → List (ℕ × ℕ)
@@ -263,8 +263,8 @@ module _ (s : Setup) (p : ℕ) where
 
 -- an object's packet has one of the numbers j; an FDT's has 0
 abbrev pub PacketOf : List ℕ → Option Packet → Type 0
-PacketOf j none = Unit {0}
-PacketOf j (some k) = given k.id ≡ false → has k.toi j ≡ true
+PacketOf j None = Unit {0}
+PacketOf j (Some k) = given k.id ≡ false → has k.toi j ≡ true
 
 abbrev pub NumberOf : List ℕ → Answer → Type 0
 NumberOf j (Answer.output k) = PacketOf j k

@@ -1,6 +1,6 @@
 -- The desk: its state, its calls, what it answers and what it says no to (src/sender/sender.rs, fdt.rs).
 use Rattle.std.specs.Prelude.{Bool, true, false, not, ◌&&◌, ◌||◌, List, [], ◌∷◌, ◌++◌, map, ℕ, eqb, leb, length, set}
-use Rattle.std.proofs.Math.Option.{Option, none, some}
+use Rattle.std.specs.Prelude.{Option, None, Some}
 use Rattle.sizes.specs.Words.{when◌then◌else◌, maybe, given, collect, keep, any, at, has, find, first_of}
 use Rattle.sizes.specs.declared.refusal.Refusal.{Refusal}
 use Rattle.sizes.specs.declared.refusal.Refusal.TheVariants as Because
@@ -69,17 +69,17 @@ opening s = record {
   next = first_toi s.width s.first;
   loose = [];
   queue = [];
-  sessions = map (λ p. record { priority = p; hand = none }) s.priorities;
-  fdt = record { state = record { next_id = s.first_id; last = none; waiting = []; current = none }; hand = none };
+  sessions = map (λ p. record { priority = p; hand = None }) s.priorities;
+  fdt = record { state = record { next_id = s.first_id; last = None; waiting = []; current = None }; hand = None };
 }
 
 -- set-up: refusal 1, and no desk, where a number is out of its range
 unfoldable pub set_up : Setup → Answer × Option Desk
-set_up s = when sound s then (done, some (opening s)) else (refused Because.SetUp, none)
+set_up s = when sound s then (done, Some (opening s)) else (refused Because.SetUp, None)
 
 -- the objects that sessions have in hand
 unfoldable pub in_hands : List Session → List Object
-in_hands = collect (λ (x : Session). maybe none (λ (h : Hand). some h.object) x.hand)
+in_hands = collect (λ (x : Session). maybe None (λ (h : Hand). Some h.object) x.hand)
 
 -- all objects that are held
 unfoldable pub objects : Desk → List Object
@@ -95,7 +95,7 @@ is t o = eqb o.toi t
 
 -- the listed objects that sessions have in hand
 unfoldable pub listed_in_hands : List Session → List Object
-listed_in_hands = collect (λ (x : Session). maybe none (λ (h : Hand). when h.listed then some h.object else none) x.hand)
+listed_in_hands = collect (λ (x : Session). maybe None (λ (h : Hand). when h.listed then Some h.object else None) x.hand)
 
 -- the listed object with this number
 unfoldable pub listed_as : Desk → ℕ → Option Object
@@ -115,7 +115,7 @@ with_fdt d f = record { complete = d.complete; next = d.next; loose = d.loose; q
 
 -- a change to what a session has in hand
 unfoldable pub in_hand : (Hand → Hand) → Session → Session
-in_hand f x = record { priority = x.priority; hand = maybe none (λ h. some (f h)) x.hand }
+in_hand f x = record { priority = x.priority; hand = maybe None (λ h. Some (f h)) x.hand }
 
 -- publish marks every listed object, waiting or in hand
 unfoldable pub marked : Object → Object
@@ -129,8 +129,8 @@ all_published d = moved d (map marked d.queue) (map (in_hand marked_hand) d.sess
 
 -- what becomes of an object that waits: a removed one is gone
 abbrev pub waiting_after : Touch → Object → Option Object
-waiting_after remove o = none
-waiting_after (trigger f) o = some (living (triggered f o.life) o)
+waiting_after remove o = None
+waiting_after (trigger f) o = Some (living (triggered f o.life) o)
 
 -- what becomes of one that a session has in hand: removed, it stays in hand; trigger touches none in transfer
 abbrev pub hand_after : Touch → Hand → Hand
@@ -139,7 +139,7 @@ hand_after (trigger f) h = h
 
 -- only the object with the number is touched
 unfoldable pub touched_waiting : ℕ → Touch → Object → Option Object
-touched_waiting t x o = when is t o then waiting_after x o else some o
+touched_waiting t x o = when is t o then waiting_after x o else Some o
 
 unfoldable pub touched_hand : ℕ → Touch → Hand → Hand
 touched_hand t x h = when is t h.object then hand_after x h else h
@@ -150,7 +150,7 @@ touched t x d = moved d (collect (touched_waiting t x) d.queue) (map (in_hand (t
 -- what a question is answered
 abbrev pub answer_to : Desk → Question → Answer
 answer_to d (listed t) = truth (given (listed_as d t))
-answer_to d (transfers t) = transferred (maybe none (λ (o : Object). some o.life.total) (listed_as d t))
+answer_to d (transfers t) = transferred (maybe None (λ (o : Object). Some o.life.total) (listed_as d t))
 
 -- the next number is given: it is held as a loose reservation, and the next after it that is not held comes next
 unfoldable pub reserved : Setup → Desk → Desk
@@ -216,7 +216,7 @@ reserve_refusal d = first_of ((Because.Full, full d) ∷ [])
 
 -- why a release is refused
 unfoldable pub release_refusal : Desk → ℕ → Option Refusal
-release_refusal d t = first_of ((Because.NotLoose, not_loose d (some t)) ∷ [])
+release_refusal d t = first_of ((Because.NotLoose, not_loose d (Some t)) ∷ [])
 
 -- why an add is refused
 unfoldable pub add_refusal : Setup → Desk → Option ℕ → Request → Option Refusal
@@ -239,11 +239,11 @@ publish_refusal s f c = first_of
 
 -- a draft of length 0 is no draft
 unfoldable pub draft_of : Option Part → Option Part
-draft_of = maybe none (λ c. when eqb c.size 0 then none else some c)
+draft_of = maybe None (λ c. when eqb c.size 0 then None else Some c)
 
 -- why an FDT run is refused: its draft is bad, whether or not it would be taken
 unfoldable pub draft_refusal : Setup → Fdt → Option Part → Option Refusal
-draft_refusal s f draft = maybe none (λ c. first_of ((Because.Sizes, bad_blocks s.sizes c.size) ∷ (Because.Part, bad_fdt_part s f.state c) ∷ [])) (draft_of draft)
+draft_refusal s f draft = maybe None (λ c. first_of ((Because.Sizes, bad_blocks s.sizes c.size) ∷ (Because.Part, bad_fdt_part s f.state c) ∷ [])) (draft_of draft)
 
 -- is an FDT queued: then file sessions answer nothing
 unfoldable pub fdt_queued : Desk → Bool
@@ -254,8 +254,8 @@ Result = Answer × Desk
 
 -- the refusal, with the desk as it was; or the result
 abbrev pub unless : Option Refusal → Desk → Result → Result
-unless none d r = r
-unless (some why) d r = (refused why, d)
+unless None d r = r
+unless (Some why) d r = (refused why, d)
 
 -- the run of file session x, which is session i
 unfoldable pub ran : Setup → ℕ → ℕ → Desk → Session → Result

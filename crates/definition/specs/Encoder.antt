@@ -1,6 +1,6 @@
 -- Encoder: the packets of one transfer, blocks interleaved over a window (src/sender/block.rs, blockencoder.rs).
 use Rattle.std.specs.Prelude.{Bool, true, false, not, ◌&&◌, ◌||◌, List, [], ◌∷◌, ◌++◌, ℕ, zero, suc, ◌+◌, ◌-◌, ◌*◌, min, eqb, ltb, leb, length, set}
-use Rattle.std.proofs.Math.Option.{Option, none, some}
+use Rattle.std.specs.Prelude.{Option, None, Some}
 use Rattle.sizes.specs.Words.{when◌then◌else◌, maybe, all, at, cut}
 use Rattle.sizes.specs.Partition.{sbn, esi, blocks_of, symbols_in, first_symbol}
 use Rattle.sizes.specs.declared.partition.Sizes.{Sizes}
@@ -63,9 +63,9 @@ wrapped x = when ltb x.index (length x.window) then x.index else 0
 -- with no block open: an empty object has one packet, which closes; all else has been sent
 unfoldable pub emptied : Part → Encoder → Option Symbol × Encoder
 emptied c x =
-    when x.begun || not (eqb c.size 0) then (none, x)
+    when x.begun || not (eqb c.size 0) then (None, x)
     else (
-      some record { block = sbn 0; symbol = esi 0; symbols = 0; payload = record { start = c.start; size = 0 }; transfer_length = 0; close = true },
+      Some record { block = sbn 0; symbol = esi 0; symbols = 0; payload = record { start = c.start; size = 0 }; transfer_length = 0; close = true },
       record { closable = x.closable; next = x.next; window = x.window; index = x.index; begun = true; stopped = x.stopped },
     )
 
@@ -101,13 +101,13 @@ symbol_of c z force o x = let p = blocks_of z c.size in let from = (first_symbol
 
 -- fill and visit, at most so many times: a visit that reads nothing removes a drained block, so one more than the open blocks are enough
 unfoldable pub visit : ℕ → ℕ → Part → Sizes → Bool → Encoder → Option Symbol × Encoder
-visit zero w c z force x = (none, x)
+visit zero w c z force x = (None, x)
 visit (suc k) w c z force x =
     let p = blocks_of z c.size in
     let y = fill w p x in
     let i = wrapped y in
     let again = visit k w c z force (without y i) in
-    maybe (emptied c y) (λ o. when drained p o then again else (let y' = advanced y i o in (some (symbol_of c z force o y'), y'))) (at y.window i)
+    maybe (emptied c y) (λ o. when drained p o then again else (let y' = advanced y i o in (Some (symbol_of c z force o y'), y'))) (at y.window i)
 
 -- a forced read is the last one
 unfoldable pub stopping : Bool → Encoder → Encoder
@@ -122,4 +122,4 @@ stopping force x = record {
 
 -- the next symbol of the transfer of content c, or none
 unfoldable pub read : ℕ → Part → Sizes → Bool → Encoder → Option Symbol × Encoder
-read w c z force x = when x.stopped then (none, x) else visit (suc (length x.window)) w c z force (stopping force x)
+read w c z force x = when x.stopped then (None, x) else visit (suc (length x.window)) w c z force (stopping force x)

@@ -1,6 +1,6 @@
 -- The FDT session: what it sends, and its run.
 use Rattle.std.specs.Prelude.{Bool, false, ◌||◌, ℕ}
-use Rattle.std.proofs.Math.Option.{Option, none, some}
+use Rattle.std.specs.Prelude.{Option, None, Some}
 use Rattle.sizes.specs.Words.{when◌then◌else◌, given}
 use Rattle.lifecycle.specs.declared.parts.Part.{Part}
 use Rattle.lifecycle.specs.Setup.{Setup}
@@ -35,14 +35,14 @@ pub record FdtTurn : Type 0 where
 
 -- no packet
 abbrev pub fdt_idle : Bool → Fdt → FdtTurn
-fdt_idle taken f = record { taken = taken; packet = none; fdt = f }
+fdt_idle taken f = record { taken = taken; packet = None; fdt = f }
 
 -- the packet of a symbol, and the encoder after it
 unfoldable pub fdt_sent : Bool → FdtState → FdtHand → Encoder → Symbol → FdtTurn
 fdt_sent taken f h x y = record {
   taken = taken;
-  packet = some record { id = some h.id; toi = 0; symbol = y };
-  fdt = record { state = f; hand = some record { id = h.id; part = h.part; encoder = x } };
+  packet = Some record { id = Some h.id; toi = 0; symbol = y };
+  fdt = record { state = f; hand = Some record { id = h.id; part = h.part; encoder = x } };
 }
 
 -- what one round comes to: the run is over, or only the transfer is, and the session goes round again. The draft was taken, or not
@@ -52,21 +52,21 @@ pub data FdtRound : Type 0 where
 
 -- the FDT that starts, in hand
 abbrev pub fdt_begun : Option Instance → Option FdtHand
-fdt_begun none = none
-fdt_begun (some i) = some record { id = i.id; part = i.part; encoder = fresh false }
+fdt_begun None = None
+fdt_begun (Some i) = Some record { id = i.id; part = i.part; encoder = fresh false }
 
 -- what is in hand; with nothing in hand, the next FDT is asked for. A draft that was taken is not there any more
 unfoldable pub fdt_in_hand_or_next : Setup → ℕ → Option Part → Bool → Fdt → Bool × Fdt
 fdt_in_hand_or_next s now draft taken f =
     when given f.hand then (taken, f)
-    else (let n = next_fdt s now (when taken then none else draft) f.state in (taken || n.taken, record { state = n.state; hand = fdt_begun n.starts }))
+    else (let n = next_fdt s now (when taken then None else draft) f.state in (taken || n.taken, record { state = n.state; hand = fdt_begun n.starts }))
 
 -- nothing without an FDT in hand; else read, never by force, and on none it is done
 unfoldable pub fdt_round_with : Setup → ℕ → Bool → FdtState → Option FdtHand → FdtRound
-fdt_round_with s now taken f none = over (fdt_idle taken (record { state = f; hand = none }))
-fdt_round_with s now taken f (some h) =
+fdt_round_with s now taken f None = over (fdt_idle taken (record { state = f; hand = None }))
+fdt_round_with s now taken f (Some h) =
     let r = read s.window h.part s.sizes false h.encoder in
-    elim r.0 [ none ↦ again taken (record { state = fdt_done now f; hand = none }) | some y ↦ over (fdt_sent taken f h r.1 y) ]
+    elim r.0 [ None ↦ again taken (record { state = fdt_done now f; hand = None }) | Some y ↦ over (fdt_sent taken f h r.1 y) ]
 
 -- one round
 unfoldable pub fdt_round : Setup → ℕ → Option Part → Bool → Fdt → FdtRound

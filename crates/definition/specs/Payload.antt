@@ -1,5 +1,5 @@
 -- The payload of a packet: a part of one of the two stores.
-use Rattle.std.proofs.Math.Option.{Option, none, some}
+use Rattle.std.specs.Prelude.{Option, None, Some}
 use Rattle.std.specs.Prelude.{List, ℕ, length, take, drop}
 use Rattle.sizes.specs.Words.{when◌then◌else◌, maybe}
 use Rattle.lifecycle.specs.Parts.{past_store}
@@ -33,8 +33,8 @@ no_place = record { store = Store.objects; part = record { start = 0; size = 0 }
 
 -- the part that a packet names, if the store that is lent has it; else, and with no packet, the empty part of the object store
 unfoldable pub place_of : Stores → Option Packet → Place
-place_of m none = no_place
-place_of m (some k) =
+place_of m None = no_place
+place_of m (Some k) =
     when past_store (length (bytes_of m (store_of k))) k.symbol.payload then no_place
     else record { store = store_of k; part = k.symbol.payload }
 

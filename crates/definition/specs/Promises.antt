@@ -1,6 +1,6 @@
 -- What is promised of the runs of a desk: statements only, proved in proofs/Refused, Rounds, FileRounds and Draft.
 use Rattle.std.specs.Prelude.{◌≡◌, Bool, true, false, List, ℕ, zero, suc, ◌+◌, ◌≤◌, length}
-use Rattle.std.proofs.Math.Option.{Option, none, some}
+use Rattle.std.specs.Prelude.{Option, None, Some}
 use Rattle.sizes.specs.Words.{when◌then◌else◌, maybe, given, at}
 use Rattle.lifecycle.specs.Fdt.{id_after}
 use Rattle.sizes.specs.declared.partition.Sizes.{Sizes}
@@ -22,7 +22,7 @@ RefusedStays = (s : Setup) (d : Desk) (c : Call) → given (refusal_in (step s d
 
 -- read, with n more visits allowed
 unfoldable pub read_longer : ℕ → ℕ → Part → Sizes → Bool → Encoder → Option Symbol × Encoder
-read_longer n w c z force x = when x.stopped then (none, x) else visit (suc (length x.window + n)) w c z force (stopping force x)
+read_longer n w c z force x = when x.stopped then (None, x) else visit (suc (length x.window + n)) w c z force (stopping force x)
 
 -- a read's visits are enough: with more it comes to the same, for every content, an empty one too, and every encoder
 abbrev pub VisitsEnough : Type 0
@@ -50,17 +50,17 @@ fdt_goes_again (FdtRound.again taken f) = true
 
 -- nor with an FDT that has just been asked for
 abbrev pub FdtNoThird : Type 0
-FdtNoThird = (s : Setup) (now : ℕ) (draft : Option Part) (taken : Bool) (f : Fdt) → 1 ≤ s.window → 1 ≤ s.sizes.e → 1 ≤ s.sizes.b → f.hand ≡ none
+FdtNoThird = (s : Setup) (now : ℕ) (draft : Option Part) (taken : Bool) (f : Fdt) → 1 ≤ s.window → 1 ≤ s.sizes.e → 1 ≤ s.sizes.b → f.hand ≡ None
     → fdt_goes_again (fdt_round s now draft taken f) ≡ false
 
 -- a file session's loop, cut after n rounds
 unfoldable pub rounds : ℕ → Setup → ℕ → ℕ → Bool → List Object → Option Hand → Turn
 rounds zero s p now fdt_queued q hand = idle q hand
-rounds (suc n) s p now fdt_queued q hand = elim (round s p now fdt_queued q hand) [ over t ↦ t | again q' ↦ rounds n s p now fdt_queued q' none ]
+rounds (suc n) s p now fdt_queued q hand = elim (round s p now fdt_queued q hand) [ over t ↦ t | again q' ↦ rounds n s p now fdt_queued q' None ]
 
 -- from an accepted set-up, after any calls, a file session's run comes to the same with more rounds
 abbrev pub RoundsEnough : Type 0
-RoundsEnough = (s : Setup) → sound s ≡ true → (l : List Call) (i : ℕ) (x : Session) (n now : ℕ) (blocked : Bool) → at (run s (opening s) l).1.sessions i ≡ some x
+RoundsEnough = (s : Setup) → sound s ≡ true → (l : List Call) (i : ℕ) (x : Session) (n now : ℕ) (blocked : Bool) → at (run s (opening s) l).1.sessions i ≡ Some x
     → rounds (suc (suc n)) s x.priority now blocked (run s (opening s) l).1.queue x.hand ≡ file_run s x.priority now blocked (run s (opening s) l).1.queue x.hand
 
 -- the FDT session's loop, cut after n rounds
@@ -76,18 +76,18 @@ FdtRoundsEnough = (n : ℕ) (s : Setup) (now : ℕ) (draft : Option Part) (f : F
 
 -- the FDT id that a packet has, if there is one
 abbrev pub packet_id : Option Packet → Option ℕ
-packet_id = maybe none (λ (k : Packet). k.id)
+packet_id = maybe None (λ (k : Packet). k.id)
 
 -- what the run of an FDT session in state f says of its draft
 pub record Drafted (s : Setup) (now : ℕ) (f : Fdt) : Type 0 where
   -- a draft that is taken comes with a packet
   pub sent_at_once : (draft : Option Part) → (fdt_run s now draft f).taken ≡ true → given (fdt_run s now draft f).packet ≡ true
   -- and that packet is its own: it has the id that was next
-  pub under_its_id : (draft : Option Part) → (fdt_run s now draft f).taken ≡ true → packet_id (fdt_run s now draft f).packet ≡ some f.state.next_id
+  pub under_its_id : (draft : Option Part) → (fdt_run s now draft f).taken ≡ true → packet_id (fdt_run s now draft f).packet ≡ Some f.state.next_id
   -- it is taken at most once, and the flag says whether: the next id is the one after, or the same
   pub id_moves : (draft : Option Part) → (fdt_run s now draft f).fdt.state.next_id ≡ (when (fdt_run s now draft f).taken then id_after f.state.next_id else f.state.next_id)
   -- no draft, no flag
-  pub no_draft : (fdt_run s now none f).taken ≡ false
+  pub no_draft : (fdt_run s now None f).taken ≡ false
 
 -- the draft of every FDT run is told of so, whatever the FDT session's state
 abbrev pub DraftTold : Type 0

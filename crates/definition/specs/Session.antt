@@ -1,6 +1,6 @@
 -- Session: what a file session sends (src/sender/sendersession.rs). It owns the object that it has in hand; the queue owns the others.
 use Rattle.std.specs.Prelude.{Bool, true, not, ◌&&◌, List, [], ◌∷◌, ◌++◌, ℕ, eqb}
-use Rattle.std.proofs.Math.Option.{Option, none, some}
+use Rattle.std.specs.Prelude.{Option, None, Some}
 use Rattle.sizes.specs.Words.{when◌then◌else◌, maybe, find, drop_first}
 use Rattle.sizes.specs.declared.partition.Sizes.{Sizes}
 use Rattle.lifecycle.specs.declared.parts.Part.{Part}
@@ -64,14 +64,14 @@ pub record Turn : Type 0 where
 
 -- no packet
 abbrev pub idle : List Object → Option Hand → Turn
-idle q h = record { packet = none; queue = q; hand = h }
+idle q h = record { packet = None; queue = q; hand = h }
 
 -- the packet of a symbol, and the encoder and the due time after it
 unfoldable pub sent : List Object → Hand → Encoder → Symbol → Turn
 sent q h x y = record {
-  packet = some record { id = none; toi = h.object.toi; symbol = y };
+  packet = Some record { id = None; toi = h.object.toi; symbol = y };
   queue = q;
-  hand = some record { object = h.object; listed = h.listed; encoder = x; pace = maybe none (λ c. some (paced c)) h.pace };
+  hand = Some record { object = h.object; listed = h.listed; encoder = x; pace = maybe None (λ c. Some (paced c)) h.pace };
 }
 
 -- what one round comes to: the run is over, or only the transfer is, and the session goes round again with this queue
@@ -81,30 +81,30 @@ pub data Round : Type 0 where
 
 -- what is in hand; with nothing in hand, the first in the queue that may start is taken
 unfoldable pub in_hand_or_next : ℕ → ℕ → List Object → Option Hand → Option Hand × List Object
-in_hand_or_next p now q (some h) = (some h, q)
-in_hand_or_next p now q none = elim (find (startable p now) q) [ none ↦ (none, q) | some o ↦ (some (begin now o), drop_first (startable p now) q) ]
+in_hand_or_next p now q (Some h) = (Some h, q)
+in_hand_or_next p now q None = elim (find (startable p now) q) [ None ↦ (None, q) | Some o ↦ (Some (begin now o), drop_first (startable p now) q) ]
 
 -- with an object in hand: nothing while an FDT is queued, nothing before the due time; else read, and on none the object is done
 unfoldable pub round_with : Setup → ℕ → Bool → List Object → Hand → Round
 round_with s now fdt_queued q h =
-    when fdt_queued then over (idle q (some h))
-    else when too_early now h.pace then over (idle q (some h))
+    when fdt_queued then over (idle q (Some h))
+    else when too_early now h.pace then over (idle q (Some h))
     else (let r = read s.window h.object.part h.object.sizes (forced h) h.encoder in
-    elim r.0 [ none ↦ again (put_back now h q) | some y ↦ over (sent q h r.1 y) ])
+    elim r.0 [ None ↦ again (put_back now h q) | Some y ↦ over (sent q h r.1 y) ])
 
 -- one round; it is over where there is nothing to take
 unfoldable pub round : Setup → ℕ → ℕ → Bool → List Object → Option Hand → Round
 round s p now fdt_queued q hand =
     let t = in_hand_or_next p now q hand in
-    elim t.0 [ none ↦ over (idle t.1 none) | some h ↦ round_with s now fdt_queued t.1 h ]
+    elim t.0 [ None ↦ over (idle t.1 None) | Some h ↦ round_with s now fdt_queued t.1 h ]
 
 -- the last round of a run: what it takes anew has a symbol to send, so it does not go round again (Promises.NoThird)
 abbrev pub last_round : Round → Turn
 last_round (over t) = t
-last_round (again q) = idle q none
+last_round (again q) = idle q None
 
 -- a file session's run: at the end of the transfer in hand, one round more
 unfoldable pub file_run : Setup → ℕ → ℕ → Bool → List Object → Option Hand → Turn
-file_run s p now fdt_queued q none = last_round (round s p now fdt_queued q none)
-file_run s p now fdt_queued q (some h) =
-    elim (round s p now fdt_queued q (some h)) [ over t ↦ t | again q' ↦ last_round (round s p now fdt_queued q' none) ]
+file_run s p now fdt_queued q None = last_round (round s p now fdt_queued q None)
+file_run s p now fdt_queued q (Some h) =
+    elim (round s p now fdt_queued q (Some h)) [ over t ↦ t | again q' ↦ last_round (round s p now fdt_queued q' None) ]

@@ -1,6 +1,6 @@
 -- Examples, computed from the definition: the bench sheet, four transfers and two runs. Proved in proofs/AllExamples.
 use Rattle.std.specs.Prelude.{◌≡◌, Bool, true, false, List, [], ◌∷◌, map, ℕ, zero, suc, ◌-◌, ◌^◌}
-use Rattle.std.proofs.Math.Option.{Option, none, some}
+use Rattle.std.specs.Prelude.{Option, None, Some}
 use Rattle.sizes.specs.Words.{when◌then◌else◌, maybe, one_if}
 use Rattle.sizes.specs.Refusals.{refusal_number}
 use Rattle.sizes.specs.Partition.{sbn, blocks_of, block_length}
@@ -29,12 +29,12 @@ pub record Table : Type 0 where
   pub p1 : parts 0 4 2 ≡ 0 ∷ 0 ∷ 0 ∷ 0 ∷ []
   pub p2 : parts 10 3 2 ≡ 2 ∷ 2 ∷ 0 ∷ 2 ∷ []
   pub p3 : parts 10 2 2 ≡ 2 ∷ 1 ∷ 2 ∷ 3 ∷ []
-  pub p3_0 : len 10 2 2 0 ≡ some 4
-  pub p3_1 : len 10 2 2 1 ≡ some 4
-  pub p3_2 : len 10 2 2 2 ≡ some 2
-  pub p3_3 : len 10 2 2 3 ≡ none
+  pub p3_0 : len 10 2 2 0 ≡ Some 4
+  pub p3_1 : len 10 2 2 1 ≡ Some 4
+  pub p3_2 : len 10 2 2 2 ≡ Some 2
+  pub p3_3 : len 10 2 2 3 ≡ None
   pub p4 : parts 1 1400 64 ≡ 1 ∷ 1 ∷ 0 ∷ 1 ∷ []
-  pub p4_0 : len 1 1400 64 0 ≡ some 1
+  pub p4_0 : len 1 1400 64 0 ≡ Some 1
   pub p5 : next_toi 16 (65_535 ∷ []) 65_535 ≡ 1
   pub p6 : next_toi 64 ((2 ^ 64 - 1) ∷ []) (2 ^ 64 - 1) ≡ 1
   pub p7 : first_toi 16 65_536 ≡ 1
@@ -45,7 +45,7 @@ pub record Table : Type 0 where
   pub p10 : runs_out 10_000_000_000 10_000_000_000 ≡ true
   pub p10' : runs_out 10_000_000_000 9_999_999_999 ≡ false
   pub p11 : tick_of 1_000_000_000 3 1 ≡ 333_333_333
-  pub wide : len (2 ^ 64 - 1) 2 (2 ^ 63) 0 ≡ none
+  pub wide : len (2 ^ 64 - 1) 2 (2 ^ 63) 0 ≡ None
 
 -- ---- the packets of one transfer
 
@@ -107,13 +107,13 @@ abbrev pub object_with : ℕ → ℕ → ℕ → ℕ → Option Carousel → Tar
 object_with p at n m r t = record {
   priority = p;
   part = bytes at n;
-  own = none;
+  own = None;
   plan = record { most = m; carousel = r; target = t; stop_at_once = false };
-  named_start = none;
+  named_start = None;
 }
 
 abbrev pub object : ℕ → ℕ → ℕ → ℕ → Request
-object p at n m = object_with p at n m none Target.at_once
+object p at n m = object_with p at n m None Target.at_once
 
 -- what an example tells of an answer; of a packet: its object number or FDT id, block, symbol, where its bytes start, how many they are, and whether it closes
 pub data Told : Type 0 where
@@ -145,12 +145,12 @@ told (Answer.refused why) = refusal (refusal_number why)
 told (Answer.number t) = toi t
 told Answer.done = ok
 told (Answer.truth b) = when b then yes else no
-told (Answer.transferred none) = not_listed
-told (Answer.transferred (some n)) = sent_whole n
-told (Answer.fdt_output taken none) = nothing
-told (Answer.fdt_output taken (some k)) = fdt_told taken k
-told (Answer.output none) = nothing
-told (Answer.output (some k)) = object_told k
+told (Answer.transferred None) = not_listed
+told (Answer.transferred (Some n)) = sent_whole n
+told (Answer.fdt_output taken None) = nothing
+told (Answer.fdt_output taken (Some k)) = fdt_told taken k
+told (Answer.output None) = nothing
+told (Answer.output (Some k)) = object_told k
 
 -- each call with its answer, from set-up on
 abbrev pub Script : Type 0
@@ -163,16 +163,16 @@ Plays l = map told (run setup (opening setup) (map (λ r. r.0) l)).0 ≡ map (λ
 unfoldable pub first_run : Script
 first_run =
     (Call.reserve, toi 65_534)
-    ∷ (Call.add (some 65_534) (object 7 10 6 1), toi 65_534)
-    ∷ (Call.add none (object 3 20 2 2), toi 65_535)
-    ∷ (Call.add none (object 3 21 2 2), refusal 5)
-    ∷ (Call.add (some 5) (object 3 30 2 2), refusal 6)
-    ∷ (Call.add none (object 4 30 2 2), refusal 2)
+    ∷ (Call.add (Some 65_534) (object 7 10 6 1), toi 65_534)
+    ∷ (Call.add None (object 3 20 2 2), toi 65_535)
+    ∷ (Call.add None (object 3 21 2 2), refusal 5)
+    ∷ (Call.add (Some 5) (object 3 30 2 2), refusal 6)
+    ∷ (Call.add None (object 4 30 2 2), refusal 2)
     ∷ (Call.run_file 0 100, nothing)
     ∷ (Call.publish 100 (bytes 0 0), refusal 5)
     ∷ (Call.publish 100 (bytes 0 2), ok)
     ∷ (Call.run_file 0 100, nothing)
-    ∷ (Call.run_fdt 100 none, fdt 0xFFFFF 0 0 0 2)
+    ∷ (Call.run_fdt 100 None, fdt 0xFFFFF 0 0 0 2)
     ∷ (Call.run_file 0 100, obj 65_534 0 0 10 2)
     ∷ (Call.touch 65_534 Touch.remove, yes)
     ∷ (Call.run_file 0 100, obj 65_534 1 0 14 2)
@@ -184,7 +184,7 @@ first_run =
     ∷ (Call.ask (Question.transfers 65_535), sent_whole 1)
     ∷ (Call.run_file 1 100, nothing)
     ∷ (Call.ask (Question.transfers 65_535), not_listed)
-    ∷ (Call.run_fdt 200 none, nothing)
+    ∷ (Call.run_fdt 200 None, nothing)
     ∷ (Call.reserve, toi 1)
     ∷ (Call.run_file 2 100, refusal 8)
     ∷ []
@@ -194,16 +194,16 @@ first_run =
 -- After completion nothing is added, numbers go on, and what is being sent is sent to its end
 unfoldable pub long_run : Script
 long_run =
-    (Call.add none (object_with 7 0 2 1 (some (Carousel.delay 1000)) Target.at_once), toi 65_534)
-    ∷ (Call.add none (object 7 10 2 1), toi 65_535)
-    ∷ (Call.add none (object 7 20 2 1), toi 1)
-    ∷ (Call.add none (object_with 3 30 4 2 none (Target.for 1000)), toi 2)
-    ∷ (Call.add none (object 7 50 2 1), toi 3)
+    (Call.add None (object_with 7 0 2 1 (Some (Carousel.delay 1000)) Target.at_once), toi 65_534)
+    ∷ (Call.add None (object 7 10 2 1), toi 65_535)
+    ∷ (Call.add None (object 7 20 2 1), toi 1)
+    ∷ (Call.add None (object_with 3 30 4 2 None (Target.for 1000)), toi 2)
+    ∷ (Call.add None (object 7 50 2 1), toi 3)
     ∷ (Call.run_file 0 100, nothing)
     ∷ (Call.publish 100 (bytes 0 2), ok)
-    ∷ (Call.run_fdt 100 (some (bytes 10 2)), fdt 0xFFFFF 0 0 0 2)
+    ∷ (Call.run_fdt 100 (Some (bytes 10 2)), fdt 0xFFFFF 0 0 0 2)
     ∷ (Call.touch 65_535 Touch.remove, yes)
-    ∷ (Call.touch 65_535 (Touch.trigger none), no)
+    ∷ (Call.touch 65_535 (Touch.trigger None), no)
     ∷ (Call.run_file 0 100, obj 65_534 0 0 0 2)
     ∷ (Call.run_file 0 200, last_obj 1 0 0 20 2)
     ∷ (Call.run_file 0 300, last_obj 3 0 0 50 2)
@@ -212,7 +212,7 @@ long_run =
     ∷ (Call.run_file 0 1201, obj 65_534 0 0 0 2)
     ∷ (Call.run_file 0 1202, nothing)
     ∷ (Call.ask (Question.transfers 65_534), sent_whole 2)
-    ∷ (Call.touch 65_534 (Touch.trigger (some 1300)), yes)
+    ∷ (Call.touch 65_534 (Touch.trigger (Some 1300)), yes)
     ∷ (Call.run_file 0 1299, nothing)
     ∷ (Call.run_file 0 1300, obj 65_534 0 0 0 2)
     ∷ (Call.run_file 1 2000, obj 2 0 0 30 2)
@@ -221,15 +221,15 @@ long_run =
     ∷ (Call.run_file 1 3000, obj 2 0 0 30 2)
     ∷ (Call.touch 65_534 Touch.remove, yes)
     ∷ (Call.ask (Question.listed 65_534), no)
-    ∷ (Call.add none (object 7 40 0 1), toi 4)
-    ∷ (Call.add none (object 7 40 300_000 1), refusal 4)
+    ∷ (Call.add None (object 7 40 0 1), toi 4)
+    ∷ (Call.add None (object 7 40 300_000 1), refusal 4)
     ∷ (Call.run_file 0 3001, nothing)
-    ∷ (Call.run_fdt 10_000_000_099 (some (bytes 10 4)), nothing)
-    ∷ (Call.run_fdt 10_000_000_100 (some (bytes 10 4)), draft 0 0 0 10 2)
-    ∷ (Call.run_fdt 10_000_000_100 none, fdt 0 0 1 12 2)
+    ∷ (Call.run_fdt 10_000_000_099 (Some (bytes 10 4)), nothing)
+    ∷ (Call.run_fdt 10_000_000_100 (Some (bytes 10 4)), draft 0 0 0 10 2)
+    ∷ (Call.run_fdt 10_000_000_100 None, fdt 0 0 1 12 2)
     ∷ (Call.run_file 0 10_000_000_101, last_obj 4 0 0 40 0)
     ∷ (Call.complete, ok)
-    ∷ (Call.add none (object 7 50 2 1), refusal 3)
+    ∷ (Call.add None (object 7 50 2 1), refusal 3)
     ∷ (Call.reserve, toi 5)
     ∷ (Call.run_file 1 10_000_000_102, last_obj 2 0 1 32 2)
     ∷ []

@@ -1,6 +1,6 @@
 -- What holds of every desk that a run from an accepted set-up comes to. Read Total last: it collects the rest.
 use Rattle.std.specs.Prelude.{◌≡◌, true, false, List, [], ◌∷◌, map, ℕ, ◌≤◌, length}
-use Rattle.std.proofs.Math.Option.{Option, none, some}
+use Rattle.std.specs.Prelude.{Option, None, Some}
 use Rattle.sizes.specs.Words.{when◌then◌else◌, maybe, has, times, Each}
 use Rattle.sizes.specs.Limits.{toi_entries, object_slots, waiting_fdts, longest_store}
 use Rattle.sizes.specs.Toi.{Toi}
@@ -18,8 +18,8 @@ use Rattle.definition.specs.Apart.{adding, accepted}
 
 -- what is there, if anything, has the property
 abbrev pub IfGiven : {A : Type 0} → (A → Type 0) → Option A → Type 0
-IfGiven P none = Unit {0}
-IfGiven P (some a) = P a
+IfGiven P None = Unit {0}
+IfGiven P (Some a) = P a
 
 -- no two parts share a byte: the first shares none with any of the rest, and so on
 abbrev pub ApartAll : List Part → Type 0
@@ -37,7 +37,7 @@ pub record Unique (s : Setup) (d : Desk) : Type 0 where
 -- a number that a call gives is not held, but by the reservation that the add names
 pub data Given (d : Desk) (c : Call) (t : ℕ) : Type 0 where
   anew : has t (numbers d) ≡ false → Given d c t
-  by_name : (q : Request) → c ≡ Call.add (some t) q → has t d.loose ≡ true → Given d c t
+  by_name : (q : Request) → c ≡ Call.add (Some t) q → has t d.loose ≡ true → Given d c t
 
 -- where a number that is held after a call comes from: it was held before, or the call answers it
 pub data HeldFrom (s : Setup) (d : Desk) (c : Call) (n : ℕ) : Type 0 where
@@ -48,7 +48,7 @@ pub data HeldFrom (s : Setup) (d : Desk) (c : Call) (n : ℕ) : Type 0 where
 
 -- an object but for what has happened to it: number, priority, part, sizes and plan
 abbrev pub newborn : Object → Object
-newborn o = living (unborn false none) o
+newborn o = living (unborn false None) o
 
 -- it is one of these, but for what has happened to it
 pub data Among : List Object → Object → Type 0 where
@@ -85,9 +85,9 @@ pub record FdtPart (s : Setup) (c : Part) : Type 0 where
 
 -- what the FDT session has in hand is the current FDT, and that is transferring; with nothing in hand it is not
 pub data Matched : Option Instance → Option FdtHand → Type 0 where
-  nothing : Matched none none
-  resting : {i : Instance} → i.transferring ≡ false → Matched (some i) none
-  sending : {i : Instance} {h : FdtHand} → i.transferring ≡ true → h.id ≡ i.id → h.part ≡ i.part → Matched (some i) (some h)
+  nothing : Matched None None
+  resting : {i : Instance} → i.transferring ≡ false → Matched (Some i) None
+  sending : {i : Instance} {h : FdtHand} → i.transferring ≡ true → h.id ≡ i.id → h.part ≡ i.part → Matched (Some i) (Some h)
 
 -- the FDT side
 pub record FdtReachable (s : Setup) (f : Fdt) : Type 0 where

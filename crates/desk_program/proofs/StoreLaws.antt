@@ -1,24 +1,14 @@
 -- Laws on the bytes of a store, and on checksums.
-use mathlib.Core.Path.{◌≡◌, ◌∙◌}
+use mathlib.Core.Path.{◌≡◌}
 use mathlib.Core.Bool.{Bool, true, false}
 use mathlib.Core.List.{List}
-use mathlib.Core.Logic.{⊎_elim}
 use Prim.Native.Nat.{ℕ, ◌+◌, ◌*◌, ◌/◌, ◌<◌, ◌≤◌}
 use native.Mathlib.Nat.{add-mul-mod_self_left}
 use native.Mathlib.Numerals.{add-one}
 use native.Mathlib.Omega.{arith}
-use lib.ListN.{length, drop, get_or, set, drop_of_length-le}
-use lib.Seq.{drop-cons, get_or-set_same, get_or-set_other}
-use Rattle.text.proofs.Lists.{lt_or_le}
+use lib.ListN.{length, drop, get_or, drop_of_length-le}
+use lib.Seq.{drop-cons}
 use Rattle.desk_program.specs.Stores.{byte_at, period_of, sum_with, sum_of}
-
--- one more byte of a store
-pub one_more : (f : ℕ → ℕ) (l : List ℕ) (i b : ℕ) → i < length l → b ≡ f i → ((k : ℕ) → k < i → get_or l k 0 ≡ f k) →
-    (k : ℕ) → k < i + 1 → get_or (set l i b) k 0 ≡ f k
-one_more f l i b h e before k m =
-    ⊎_elim (λ (n : k < i). get_or-set_other l i k b 0 (λ q. omega arith) ∙ before k n)
-    (λ (n : i ≤ k). let q : k ≡ i = omega arith in rw q (get_or-set_same l i b 0 h ∙ e))
-    (lt_or_le k i)
 
 -- a store repeats itself
 pub again : (is_fdt : Bool) (i : ℕ) → byte_at is_fdt (i + period_of is_fdt) ≡ byte_at is_fdt i

@@ -1,5 +1,4 @@
--- Read in this order: Commands, Stores, Replies, Plays.
-pub mod Commands
+-- Read in this order: Stores, Replies, Plays.
 pub mod Plays
 pub mod Replies
 pub mod Stores

@@ -1,62 +1,49 @@
 -- What a reply says, as the definition's answer.
-use Rattle.std.specs.Prelude.{◌≡◌, Bool, true, false, ℕ}
-use Rattle.std.proofs.Math.Option.{Option, none, some}
-use Rattle.sizes.specs.Words.{when◌then◌else◌}
+use Rattle.std.specs.Prelude.{◌≡◌, Bool, ℕ}
+use Rattle.std.specs.Prelude.{Option, None, Some, Result, Ok, Err}
+use Rattle.sizes.specs.Words.{when◌then◌else◌, over}
+use Rattle.sizes.specs.declared.refusal.Refusal.{Refusal}
 use Rattle.sizes.specs.declared.refusal.Refusal.TheVariants as Because
-use Rattle.lifecycle.specs.FdtCalls.{transfers_said}
-use Rattle.lifecycle.specs.declared.fdt.Transfers.{Transfers}
 use Rattle.definition.specs.Desk as Def
 use Rattle.sender.specs.SenderCalls.{packet_said}
 use Rattle.wire.specs.declared.record.Record.{Record}
-use Rattle.wire.specs.declared.record.Reading.{Reading}
-use Rattle.wire.specs.declared.record.Reading.TheVariants as ReadingV
 use Rattle.record_program.specs.Numbers.{room_for}
 use Rattle.desk_program.specs.declared.reply.Reply.{Reply}
 use Rattle.desk_program.specs.declared.reply.Reply.TheVariants as ReplyV
 
 -- none: it answers no call of a sender
 abbrev pub reply_said : Reply → Option Def.Answer
-reply_said ReplyV.Silent = none
-reply_said ReplyV.Error = none
-reply_said ReplyV.Done = some Def.Answer.done
-reply_said (ReplyV.Refused why) = some (Def.Answer.refused why)
-reply_said (ReplyV.Toi n) = some (Def.Answer.number n)
-reply_said ReplyV.Yes = some (Def.Answer.truth true)
-reply_said ReplyV.No = some (Def.Answer.truth false)
-reply_said (ReplyV.Number n) = some (Def.Answer.transferred (some n))
-reply_said ReplyV.Missing = some (Def.Answer.transferred none)
-reply_said ReplyV.Nothing = some (Def.Answer.output none)
-reply_said (ReplyV.Sent p) = some (Def.Answer.output (some (packet_said p)))
-reply_said (ReplyV.NoFdt taken) = some (Def.Answer.fdt_output taken none)
-reply_said (ReplyV.SentFdt taken p) = some (Def.Answer.fdt_output taken (some (packet_said p)))
-reply_said (ReplyV.Cut p) = none
-reply_said (ReplyV.Drained l e b w) = none
-reply_said (ReplyV.Written r room) = none
-reply_said (ReplyV.Fields r) = none
+reply_said ReplyV.Silent = None
+reply_said ReplyV.Error = None
+reply_said ReplyV.Done = Some Def.Answer.done
+reply_said (ReplyV.Refused why) = Some (Def.Answer.refused why)
+reply_said (ReplyV.Toi n) = Some (Def.Answer.number n)
+reply_said (ReplyV.Truth b) = Some (Def.Answer.truth b)
+reply_said (ReplyV.Number n) = Some (Def.Answer.transferred n)
+reply_said (ReplyV.Sent p) = Some (Def.Answer.output (over packet_said p))
+reply_said (ReplyV.SentFdt taken p) = Some (Def.Answer.fdt_output taken (over packet_said p))
+reply_said (ReplyV.Cut p) = None
+reply_said (ReplyV.Drained t) = None
+reply_said (ReplyV.Written w) = None
+reply_said (ReplyV.Fields r) = None
 
 -- the reply says this answer
 abbrev pub Says : Def.Answer → Reply → Type 0
-Says a r = reply_said r ≡ some a
+Says a r = reply_said r ≡ Some a
 
+-- to a set-up, by whether there is a sender after it
 abbrev pub set_up_said : Bool → Def.Answer
 set_up_said ok = when ok then Def.Answer.done else Def.Answer.refused Because.SetUp
 
-abbrev pub truth_said : Bool → Def.Answer
-truth_said b = Def.Answer.truth b
-
 -- the reply to a block's length, if it has one
 abbrev pub length_shown : Option ℕ → Reply
-length_shown none = ReplyV.Missing
-length_shown (some n) = ReplyV.Number n
+length_shown n = ReplyV.Number n
 
 -- the reply to a command that writes a record: the record, if it can be written
 abbrev pub record_shown : Record → ℕ → Reply
-record_shown r room = when room_for room r then ReplyV.Written r room else ReplyV.Refused Because.Record
+record_shown r room = when room_for room r then ReplyV.Written (record { «record» = r; room = room }) else ReplyV.Refused Because.Record
 
 -- the reply to one that reads a record
-abbrev pub reading_shown : Reading → Reply
-reading_shown (ReadingV.Fields r) = ReplyV.Fields r
-reading_shown ReadingV.Refused = ReplyV.Refused Because.Record
-
-abbrev pub total_said : Transfers → Def.Answer
-total_said t = Def.Answer.transferred (transfers_said t)
+abbrev pub reading_shown : Result Record Refusal → Reply
+reading_shown (Ok r) = ReplyV.Fields r
+reading_shown (Err why) = ReplyV.Refused why

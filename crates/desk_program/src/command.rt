@@ -1,19 +1,16 @@
 // A line of a script as a command.
-ghost use Rattle.std.specs.Prelude.{◌≡◌, ◌≤◌};
-ghost use Rattle.desk_program.specs.Commands.{setup_named};
-
-use lifecycle::announce::Draft;
-use lifecycle::fdt::{Named, Own};
+use drain_program::Transfer;
 use lifecycle::filedesc::{Carousel, Target, Time};
 use lifecycle::parts::Part;
-use record_program::{ReadWords, WriteWords};
+use record_program::WriteWords;
 use sender::sender::Object;
-use sender::setup::{FdtCarousel, Setup};
-use sizes::limits::MOST_SESSIONS;
+use sender::setup::Setup;
+use sizes::limits::{LARGEST_NAMED_COUNT, MOST_SESSIONS};
 use sizes::numbers::Sbn;
-use sizes::partition::Sizes;
-use text::{Field, Word};
-use wire::record::{Reading, Record};
+use sizes::partition::{Partition, Sizes};
+use sizes::refusal::Refusal;
+use text::Words;
+use wire::record::Record;
 
 // What a line asks for.
 #[derive(Clone, Copy)]
@@ -22,14 +19,14 @@ pub enum Command {
     Skip,
     // no command
     Wrong,
-    Setup(Opening),
+    Setup(Setup),
     // a set-up with more sessions than a sender has, none, or a priority above 32 bits
     SetupOut,
     Reserve,
     Release(u64),
     Add {
         object: Object,
-        named: Named,
+        named: Option<u64>,
     },
     // an add with a priority above 32 bits, which no session has
     AddNowhere,
@@ -47,7 +44,7 @@ pub enum Command {
     Transfers(u64),
     RunFdt {
         clock: u64,
-        draft: Draft,
+        draft: Option<Part>,
     },
     Run {
         session: u64,
@@ -65,676 +62,292 @@ pub enum Command {
         sbn: Sbn,
     },
     RawLength {
-        large: u64,
-        small: u64,
-        nb_a_large: u64,
+        p: Partition,
         l: u64,
         e: u64,
         sbn: Sbn,
     },
-    Drain {
-        l: u64,
-        e: u64,
-        b: u64,
-        w: u64,
-    },
-    // a record, and the room of the buffer that it is written into
-    WriteRecord {
-        record: Record,
-        room: u8,
-    },
+    Drain(Transfer),
+    WriteRecord(WriteWords),
     // the record that stands in the bytes of the line, if any does
-    ReadRecord(Reading),
+    ReadRecord(Result<Record, Refusal>),
 }
-
-// The numbers of a set-up. The priorities of its first `count` sessions stand each in a field.
-#[derive(Clone, Copy)]
-pub struct Opening {
-    pub sizes: Sizes,
-    pub window: u64,
-    pub count: u64,
-    pub p0: u32,
-    pub p1: u32,
-    pub p2: u32,
-    pub p3: u32,
-    pub width: u64,
-    pub first_toi: u64,
-    pub first_fdt_id: u64,
-    pub validity: u64,
-    pub carousel: FdtCarousel,
-    pub object_store: u64,
-    pub fdt_store: u64,
-}
-
-// The set-up that they are.
-pub fn setup_of(x: Opening) -> Setup
-    ensures { result ≡ setup_named x }
-{
-    let sizes = x.sizes;
-    let carousel = x.carousel;
-    Setup {
-        sizes,
-        window: x.window,
-        count: x.count,
-        priorities: [x.p0, x.p1, x.p2, x.p3],
-        width: x.width,
-        first_toi: x.first_toi,
-        first_fdt_id: x.first_fdt_id,
-        validity: x.validity,
-        carousel,
-        object_store: x.object_store,
-        fdt_store: x.fdt_store,
-    }
-}
-
-// The largest number of 32 bits.
-const MOST_32: u64 = 0xFFFF_FFFF;
 
 // What a line asks for, by its first word.
 pub fn read_command(line: &[u8]) -> Command {
     if text::LONGEST < line.len() {
         return Command::Wrong;
     }
-    let Word::At { start, end } = text::next_word(line, 0) else {
+    let mut words = Words::new(line);
+    let Some(name) = words.next_word() else {
         return Command::Skip;
     };
-    let name = text::part(line, start, end);
-    if is_comment(name) {
+    if name.first() == Some(&b'#') {
         return Command::Skip;
     }
-    if text::is_word(name, b"setup") {
-        return read_setup(line, end);
-    }
-    if text::is_word(name, b"add") {
-        return read_add(line, end);
-    }
-    if text::is_word(name, b"trigger") {
-        return read_trigger(line, end);
-    }
-    if text::is_word(name, b"writerecord") {
-        return read_write(line, end);
-    }
-    if text::is_word(name, b"readrecord") {
-        return read_read(line, end);
-    }
-    read_plain(line, name, end)
+    read_named(name, words).unwrap_or(Command::Wrong)
 }
 
-// Does a word begin with `#`?
-fn is_comment(w: &[u8]) -> bool {
-    if 0 < w.len() { w[0] == b'#' } else { false }
-}
-
-// FDT CLOSE FDT_ID TOI BLOCK SYMBOL LENGTH TRANSFER_LENGTH COUNT ROOM
-fn read_write(line: &[u8], from: usize) -> Command {
-    let WriteWords::Are { record, room } = record_program::write_words(line, from) else {
-        return Command::Wrong;
-    };
-    Command::WriteRecord { record, room }
-}
-
-// HEX
-fn read_read(line: &[u8], from: usize) -> Command {
-    let ReadWords::Are(found) = record_program::read_words(line, from) else {
-        return Command::Wrong;
-    };
-    Command::ReadRecord(found)
-}
-
-// Up to six numbers, the first `count` of `all`; what stands behind them begins at `next`.
-#[derive(Clone, Copy)]
-struct Numbers {
-    count: usize,
-    all: [u64; 6],
-    next: usize,
-}
-
-// The next numbers, at most `most` of them, up to the first word that is none.
-fn next_numbers(line: &[u8], from: usize, most: usize) -> Numbers
-    requires { most ≤ 6 }
-{
-    let mut all = [0u64; 6];
-    let mut count = 0;
-    let mut next = from;
-    while count < most {
-        let Field::Value { value, next: end } = text::next_number(line, next) else {
-            return Numbers { count, all, next };
-        };
-        all[count] = value;
-        next = end;
-        count += 1;
+// The command with this name, if the words behind it are what it takes.
+fn read_named(name: &[u8], words: Words) -> Option<Command> {
+    match name {
+        b"setup" => read_setup(words),
+        b"add" => read_add(words),
+        b"trigger" => read_trigger(words),
+        b"writerecord" => read_write(words),
+        b"readrecord" => read_read(words),
+        _ => read_plain(name, words),
     }
-    Numbers { count, all, next }
 }
 
 // A command of nothing but numbers behind its name.
-fn read_plain(line: &[u8], name: &[u8], from: usize) -> Command {
-    let n = next_numbers(line, from, 6);
-    if !text::ended(line, n.next) {
-        return Command::Wrong;
-    }
-    let count = n.count;
-    let a = n.all;
-    match count {
-        0 => of_none(name),
-        1 => of_one(name, a[0]),
-        2 => of_two(name, a[0], a[1]),
-        3 => of_three(name, a[0], a[1], a[2]),
-        4 => of_four(name, a[0], a[1], a[2], a[3]),
-        6 => of_six(name, a),
-        _ => Command::Wrong,
-    }
-}
-
-fn of_none(name: &[u8]) -> Command {
-    if text::is_word(name, b"reserve") {
-        return Command::Reserve;
-    }
-    if text::is_word(name, b"complete") {
-        return Command::Complete;
-    }
-    Command::Wrong
-}
-
-fn of_one(name: &[u8], toi: u64) -> Command {
-    if text::is_word(name, b"release") {
-        return Command::Release(toi);
-    }
-    if text::is_word(name, b"remove") {
-        return Command::Remove(toi);
-    }
-    if text::is_word(name, b"listed") {
-        return Command::Listed(toi);
-    }
-    if text::is_word(name, b"transfers") {
-        return Command::Transfers(toi);
-    }
-    Command::Wrong
-}
-
-fn of_two(name: &[u8], session: u64, clock: u64) -> Command {
-    if text::is_word(name, b"run") {
-        return Command::Run { session, clock };
-    }
-    Command::Wrong
-}
-
-// A clock and a place in a store; or L, E and B.
-fn of_three(name: &[u8], x: u64, y: u64, z: u64) -> Command {
-    let part = Part { start: y, size: z };
-    if text::is_word(name, b"publish") {
-        return Command::Publish { clock: x, part };
-    }
-    if text::is_word(name, b"runfdt") {
-        return Command::RunFdt {
-            clock: x,
-            draft: Draft::Given(part),
-        };
-    }
-    if text::is_word(name, b"partition") {
-        return Command::Partition { l: x, e: y, b: z };
-    }
-    Command::Wrong
-}
-
-// L, E and B, with a window or a block's number, which has 32 bits.
-fn of_four(name: &[u8], l: u64, e: u64, b: u64, last: u64) -> Command {
-    if text::is_word(name, b"drain") {
-        return Command::Drain { l, e, b, w: last };
-    }
-    if MOST_32 < last {
-        return Command::Wrong;
-    }
-    if text::is_word(name, b"blocklength") {
-        return Command::BlockLength {
-            l,
-            e,
-            b,
-            sbn: Sbn(last as u32),
-        };
-    }
-    Command::Wrong
-}
-
-fn of_six(name: &[u8], a: [u64; 6]) -> Command {
-    let last = a[5];
-    if MOST_32 < last {
-        return Command::Wrong;
-    }
-    if text::is_word(name, b"rawlength") {
-        return Command::RawLength {
-            large: a[0],
-            small: a[1],
-            nb_a_large: a[2],
-            l: a[3],
-            e: a[4],
-            sbn: Sbn(last as u32),
-        };
-    }
-    Command::Wrong
-}
-
-// A number, or `-` for none (`known` is false), and the place behind it; not `ok` where neither is next.
-#[derive(Clone, Copy)]
-struct Maybe {
-    ok: bool,
-    known: bool,
-    value: u64,
-    next: usize,
-}
-
-fn next_maybe(line: &[u8], from: usize) -> Maybe {
-    if let Field::Value { value, next } = text::next_number(line, from) {
-        return Maybe {
-            ok: true,
-            known: true,
-            value,
-            next,
-        };
-    }
-    let Word::At { start, end } = text::next_word(line, from) else {
-        return Maybe {
-            ok: false,
-            known: false,
-            value: 0,
-            next: from,
-        };
+fn read_plain(name: &[u8], mut words: Words) -> Option<Command> {
+    let command = match name {
+        b"partition" | b"blocklength" | b"rawlength" | b"drain" => read_sizes(name, &mut words)?,
+        _ => read_call(name, &mut words)?,
     };
-    Maybe {
-        ok: text::is_word(text::part(line, start, end), b"-"),
-        known: false,
-        value: 0,
-        next: end,
+    words.is_over().then_some(command)
+}
+
+// A call of the sender.
+fn read_call(name: &[u8], words: &mut Words) -> Option<Command> {
+    match name {
+        b"reserve" => Some(Command::Reserve),
+        b"complete" => Some(Command::Complete),
+        b"release" => Some(Command::Release(next_number(words)?)),
+        b"remove" => Some(Command::Remove(next_number(words)?)),
+        b"listed" => Some(Command::Listed(next_number(words)?)),
+        b"transfers" => Some(Command::Transfers(next_number(words)?)),
+        b"run" => {
+            let session = next_number(words)?;
+            let clock = next_number(words)?;
+            Some(Command::Run { session, clock })
+        }
+        b"publish" => {
+            let clock = next_number(words)?;
+            let part = next_part(words)?;
+            Some(Command::Publish { clock, part })
+        }
+        b"runfdt" => {
+            let clock = next_number(words)?;
+            let draft = Some(next_part(words)?);
+            Some(Command::RunFdt { clock, draft })
+        }
+        _ => None,
     }
+}
+
+// A question about sizes, which needs no sender.
+fn read_sizes(name: &[u8], words: &mut Words) -> Option<Command> {
+    if name == b"rawlength".as_slice() {
+        return read_raw(words);
+    }
+    let l = next_number(words)?;
+    let e = next_number(words)?;
+    let b = next_number(words)?;
+    match name {
+        b"partition" => Some(Command::Partition { l, e, b }),
+        b"drain" => {
+            let w = next_number(words)?;
+            Some(Command::Drain(Transfer { l, e, b, w }))
+        }
+        b"blocklength" => {
+            let sbn = Sbn(next_u32(words)?);
+            Some(Command::BlockLength { l, e, b, sbn })
+        }
+        _ => None,
+    }
+}
+
+// LARGE SMALL LARGES L E SBN
+fn read_raw(words: &mut Words) -> Option<Command> {
+    let p = Partition {
+        large: next_number(words)?,
+        small: next_number(words)?,
+        nb_a_large: next_number(words)?,
+        blocks: 0,
+    };
+    let l = next_number(words)?;
+    let e = next_number(words)?;
+    let sbn = Sbn(next_u32(words)?);
+    Some(Command::RawLength { p, l, e, sbn })
+}
+
+fn next_number(words: &mut Words) -> Option<u64> {
+    words.next_number().ok()
+}
+
+// A number of 32 bits.
+fn next_u32(words: &mut Words) -> Option<u32> {
+    u32::try_from(next_number(words)?).ok()
+}
+
+// START LENGTH
+fn next_part(words: &mut Words) -> Option<Part> {
+    let start = next_number(words)?;
+    let size = next_number(words)?;
+    Some(Part { start, size })
+}
+
+// A number, or `-` for none.
+fn next_maybe(words: &mut Words) -> Option<Option<u64>> {
+    if let Ok(n) = words.next_number() {
+        return Some(Some(n));
+    }
+    let w = words.next_word()?;
+    (w == b"-".as_slice()).then_some(None)
+}
+
+// A time, or `-` for none.
+fn next_time(words: &mut Words) -> Option<Time> {
+    Some(next_maybe(words)?.map_or(Time::none(), Time::at))
+}
+
+// FDT CLOSE FDT_ID TOI BLOCK SYMBOL LENGTH TRANSFER_LENGTH COUNT ROOM
+fn read_write(words: Words) -> Option<Command> {
+    Some(Command::WriteRecord(record_program::write_words(words)?))
+}
+
+// HEX
+fn read_read(words: Words) -> Option<Command> {
+    Some(Command::ReadRecord(record_program::read_words(words)?))
 }
 
 // TOI CLOCK, where the clock may be none.
-fn read_trigger(line: &[u8], from: usize) -> Command {
-    let Field::Value { value: toi, next } = text::next_number(line, from) else {
-        return Command::Wrong;
-    };
-    let clock = next_maybe(line, next);
-    if !clock.ok {
-        return Command::Wrong;
-    }
-    if !text::ended(line, clock.next) {
-        return Command::Wrong;
-    }
-    let start = Time {
-        known: clock.known,
-        at: clock.value,
-    };
-    Command::Trigger { toi, start }
+fn read_trigger(mut words: Words) -> Option<Command> {
+    let toi = next_number(&mut words)?;
+    let start = next_time(&mut words)?;
+    words.is_over().then_some(Command::Trigger { toi, start })
 }
 
-// The priorities of a set-up: the first four. `fits` is false where there are none, more than four, or one above
-// 32 bits; `ok` is false where a word is no number.
-#[derive(Clone, Copy)]
-struct Priorities {
-    ok: bool,
-    fits: bool,
-    p: [u32; MOST_SESSIONS],
-    next: usize,
+// The priorities of a set-up, as many as it names sessions. Some(None) where there are none, more than a sender has, or one
+// is above 32 bits; None where a word is no number.
+fn next_priorities(words: &mut Words, count: u64) -> Option<Option<[u32; MOST_SESSIONS]>> {
+    let mut named = [0u64; MOST_SESSIONS];
+    for (n, _) in named.iter_mut().zip(0..count) {
+        *n = next_number(words)?;
+    }
+    for _ in LARGEST_NAMED_COUNT..count {
+        next_number(words)?;
+    }
+    if count == 0 || LARGEST_NAMED_COUNT < count {
+        return Some(None);
+    }
+    Some(in_32_bits(named))
 }
 
-fn next_priorities(line: &[u8], from: usize, count: u64) -> Priorities {
-    let mut p = [0u32; MOST_SESSIONS];
-    let mut kept = 0;
-    let mut fits = 0 < count;
-    let mut next = from;
-    let mut left = count;
-    while 0 < left {
-        let Field::Value { value, next: end } = text::next_number(line, next) else {
-            return Priorities {
-                ok: false,
-                fits,
-                p,
-                next,
-            };
-        };
-        if MOST_32 < value {
-            fits = false;
-        } else if kept < MOST_SESSIONS {
-            p[kept] = value as u32;
-            kept += 1;
-        } else {
-            fits = false;
-        }
-        next = end;
-        left -= 1;
+// The same numbers, where none is above 32 bits.
+fn in_32_bits(wide: [u64; MOST_SESSIONS]) -> Option<[u32; MOST_SESSIONS]> {
+    let mut all = [0u32; MOST_SESSIONS];
+    for (n, from) in all.iter_mut().zip(wide) {
+        *n = u32::try_from(from).ok()?;
     }
-    Priorities {
-        ok: true,
-        fits,
-        p,
-        next,
-    }
+    Some(all)
 }
 
-// MODE GAP, and the place behind them.
-#[derive(Clone, Copy)]
-enum Repeats {
-    Are { carousel: Carousel, next: usize },
-    Bad,
-}
-
-fn next_repeats(line: &[u8], from: usize) -> Repeats {
-    let Word::At { start, end } = text::next_word(line, from) else {
-        return Repeats::Bad;
-    };
-    let Field::Value { value: gap, next } = text::next_number(line, end) else {
-        return Repeats::Bad;
-    };
-    let mode = text::part(line, start, end);
-    if text::is_word(mode, b"none") {
-        let carousel = Carousel::Never;
-        return Repeats::Are { carousel, next };
-    }
-    if text::is_word(mode, b"delay") {
-        let carousel = Carousel::Delay(gap);
-        return Repeats::Are { carousel, next };
-    }
-    if text::is_word(mode, b"interval") {
-        let carousel = Carousel::Interval(gap);
-        return Repeats::Are { carousel, next };
-    }
-    Repeats::Bad
-}
-
-// The same for an FDT, which is always sent again.
-#[derive(Clone, Copy)]
-enum FdtRepeats {
-    Are { carousel: FdtCarousel, next: usize },
-    Bad,
-}
-
-fn next_fdt_repeats(line: &[u8], from: usize) -> FdtRepeats {
-    let Repeats::Are {
-        carousel: mode,
-        next,
-    } = next_repeats(line, from)
-    else {
-        return FdtRepeats::Bad;
-    };
+// MODE GAP
+fn next_repeats(words: &mut Words) -> Option<Option<Carousel>> {
+    let mode = words.next_word()?;
+    let gap = next_number(words)?;
     match mode {
-        Carousel::Never => FdtRepeats::Bad,
-        Carousel::Delay(gap) => {
-            let carousel = FdtCarousel::Delay(gap);
-            FdtRepeats::Are { carousel, next }
-        }
-        Carousel::Interval(gap) => {
-            let carousel = FdtCarousel::Interval(gap);
-            FdtRepeats::Are { carousel, next }
-        }
+        b"none" => Some(None),
+        b"delay" => Some(Some(Carousel::Delay(gap))),
+        b"interval" => Some(Some(Carousel::Interval(gap))),
+        _ => None,
     }
 }
 
-// E B W N P.. WIDTH TOI ID VALIDITY MODE GAP OBJECTS FDTS
-fn read_setup(line: &[u8], from: usize) -> Command {
-    let head = next_numbers(line, from, 4);
-    if head.count < 4 {
-        return Command::Wrong;
+// E B W N P.. WIDTH TOI ID VALIDITY MODE GAP OBJECTS FDTS. An FDT is always sent again.
+fn read_setup(mut words: Words) -> Option<Command> {
+    let e = next_number(&mut words)?;
+    let b = next_number(&mut words)?;
+    let window = next_number(&mut words)?;
+    let count = next_number(&mut words)?;
+    let named = next_priorities(&mut words, count)?;
+    let width = next_number(&mut words)?;
+    let first_toi = next_number(&mut words)?;
+    let first_fdt_id = next_number(&mut words)?;
+    let validity = next_number(&mut words)?;
+    let carousel = next_repeats(&mut words)??;
+    let object_store = next_number(&mut words)?;
+    let fdt_store = next_number(&mut words)?;
+    if !words.is_over() {
+        return None;
     }
-    let a = head.all;
-    let p = next_priorities(line, head.next, a[3]);
-    if !p.ok {
-        return Command::Wrong;
-    }
-    let middle = next_numbers(line, p.next, 4);
-    if middle.count < 4 {
-        return Command::Wrong;
-    }
-    let FdtRepeats::Are { carousel, next } = next_fdt_repeats(line, middle.next) else {
-        return Command::Wrong;
+    let Some(priorities) = named else {
+        return Some(Command::SetupOut);
     };
-    let stores = next_numbers(line, next, 2);
-    if stores.count < 2 {
-        return Command::Wrong;
-    }
-    if !text::ended(line, stores.next) {
-        return Command::Wrong;
-    }
-    if !p.fits {
-        return Command::SetupOut;
-    }
-    let q = p.p;
-    let m = middle.all;
-    let s = stores.all;
-    Command::Setup(opening_of(a, q, m, carousel, s))
-}
-
-// A set-up of E B W N, the priorities, WIDTH TOI ID VALIDITY, the carousel, and OBJECTS FDTS.
-fn opening_of(
-    a: [u64; 6],
-    p: [u32; MOST_SESSIONS],
-    m: [u64; 6],
-    carousel: FdtCarousel,
-    s: [u64; 6],
-) -> Opening {
-    Opening {
-        sizes: Sizes { e: a[0], b: a[1] },
-        window: a[2],
-        count: a[3],
-        p0: p[0],
-        p1: p[1],
-        p2: p[2],
-        p3: p[3],
-        width: m[0],
-        first_toi: m[1],
-        first_fdt_id: m[2],
-        validity: m[3],
+    Some(Command::Setup(Setup {
+        sizes: Sizes { e, b },
+        window,
+        count,
+        priorities,
+        width,
+        first_toi,
+        first_fdt_id,
+        validity,
         carousel,
-        object_store: s[0],
-        fdt_store: s[1],
+        object_store,
+        fdt_store,
+    }))
+}
+
+// E B of an object, or `-` for both.
+fn next_own(words: &mut Words) -> Option<Option<Sizes>> {
+    match (next_maybe(words)?, next_maybe(words)?) {
+        (Some(e), Some(b)) => Some(Some(Sizes { e, b })),
+        (None, None) => Some(None),
+        _ => None,
     }
 }
 
-// E B of an object, or `-` for both, and the place behind them.
-#[derive(Clone, Copy)]
-enum OwnSizes {
-    Are { own: Own, next: usize },
-    Bad,
-}
-
-fn next_own(line: &[u8], from: usize) -> OwnSizes {
-    let e = next_maybe(line, from);
-    if !e.ok {
-        return OwnSizes::Bad;
-    }
-    let b = next_maybe(line, e.next);
-    if !b.ok {
-        return OwnSizes::Bad;
-    }
-    let next = b.next;
-    if e.known {
-        if !b.known {
-            return OwnSizes::Bad;
-        }
-        let own = Own::Sizes(Sizes {
-            e: e.value,
-            b: b.value,
-        });
-        return OwnSizes::Are { own, next };
-    }
-    if b.known {
-        return OwnSizes::Bad;
-    }
-    let own = Own::SetUp;
-    OwnSizes::Are { own, next }
-}
-
-// TARGET TIME, and the place behind them.
-#[derive(Clone, Copy)]
-enum Pacing {
-    Is { target: Target, next: usize },
-    Bad,
-}
-
-fn next_pacing(line: &[u8], from: usize) -> Pacing {
-    let Word::At { start, end } = text::next_word(line, from) else {
-        return Pacing::Bad;
-    };
-    let Field::Value { value: time, next } = text::next_number(line, end) else {
-        return Pacing::Bad;
-    };
-    let kind = text::part(line, start, end);
-    if text::is_word(kind, b"none") {
-        let target = Target::AtOnce;
-        return Pacing::Is { target, next };
-    }
-    if text::is_word(kind, b"within") {
-        let target = Target::Within(time);
-        return Pacing::Is { target, next };
-    }
-    if text::is_word(kind, b"at") {
-        let target = Target::By(time);
-        return Pacing::Is { target, next };
-    }
-    Pacing::Bad
-}
-
-// PRIORITY START LENGTH E B MAX, and the place behind them.
-#[derive(Clone, Copy)]
-enum Head {
-    Is {
-        priority: u64,
-        part: Part,
-        own: Own,
-        most: u32,
-        next: usize,
-    },
-    Bad,
-}
-
-fn next_head(line: &[u8], from: usize) -> Head {
-    let n = next_numbers(line, from, 3);
-    if n.count < 3 {
-        return Head::Bad;
-    }
-    let a = n.all;
-    let OwnSizes::Are { own, next: i } = next_own(line, n.next) else {
-        return Head::Bad;
-    };
-    let Field::Value { value, next } = text::next_number(line, i) else {
-        return Head::Bad;
-    };
-    if MOST_32 < value {
-        return Head::Bad;
-    }
-    Head::Is {
-        priority: a[0],
-        part: Part {
-            start: a[1],
-            size: a[2],
-        },
-        own,
-        most: value as u32,
-        next,
+// TARGET TIME
+fn next_pacing(words: &mut Words) -> Option<Target> {
+    let kind = words.next_word()?;
+    let time = next_number(words)?;
+    match kind {
+        b"none" => Some(Target::AtOnce),
+        b"within" => Some(Target::Within(time)),
+        b"at" => Some(Target::By(time)),
+        _ => None,
     }
 }
 
-// `0` or `1`, and the place behind it.
-#[derive(Clone, Copy)]
-enum Flag {
-    Is { value: bool, next: usize },
-    Bad,
-}
-
-fn next_flag(line: &[u8], from: usize) -> Flag {
-    let Word::At { start, end } = text::next_word(line, from) else {
-        return Flag::Bad;
-    };
-    let w = text::part(line, start, end);
-    if text::is_word(w, b"0") {
-        return Flag::Is {
-            value: false,
-            next: end,
-        };
-    }
-    if text::is_word(w, b"1") {
-        return Flag::Is {
-            value: true,
-            next: end,
-        };
-    }
-    Flag::Bad
-}
-
-// FROM STOP TOI, the last words of an add.
-#[derive(Clone, Copy)]
-enum Tail {
-    Is {
-        start: Time,
-        stop: bool,
-        named: Named,
-    },
-    Bad,
-}
-
-fn last_words(line: &[u8], from: usize) -> Tail {
-    let t = next_maybe(line, from);
-    if !t.ok {
-        return Tail::Bad;
-    }
-    let Flag::Is { value: stop, next } = next_flag(line, t.next) else {
-        return Tail::Bad;
-    };
-    let toi = next_maybe(line, next);
-    if !toi.ok {
-        return Tail::Bad;
-    }
-    if !text::ended(line, toi.next) {
-        return Tail::Bad;
-    }
-    let start = Time {
-        known: t.known,
-        at: t.value,
-    };
-    let named = named_by(toi);
-    Tail::Is { start, stop, named }
-}
-
-fn named_by(toi: Maybe) -> Named {
-    if toi.known {
-        Named::Toi(toi.value)
-    } else {
-        Named::Anew
+// `0` or `1`
+fn next_flag(words: &mut Words) -> Option<bool> {
+    match words.next_word()? {
+        b"0" => Some(false),
+        b"1" => Some(true),
+        _ => None,
     }
 }
 
 // PRIORITY START LENGTH E B MAX MODE GAP TARGET TIME FROM STOP TOI
-fn read_add(line: &[u8], from: usize) -> Command {
-    let Head::Is {
-        priority,
-        part,
-        own,
-        most,
-        next: i,
-    } = next_head(line, from)
-    else {
-        return Command::Wrong;
-    };
-    let Repeats::Are { carousel, next: j } = next_repeats(line, i) else {
-        return Command::Wrong;
-    };
-    let Pacing::Is { target, next: k } = next_pacing(line, j) else {
-        return Command::Wrong;
-    };
-    let Tail::Is { start, stop, named } = last_words(line, k) else {
-        return Command::Wrong;
-    };
-    if MOST_32 < priority {
-        return Command::AddNowhere;
+fn read_add(mut words: Words) -> Option<Command> {
+    let priority = next_number(&mut words)?;
+    let part = next_part(&mut words)?;
+    let own = next_own(&mut words)?;
+    let most = next_u32(&mut words)?;
+    let carousel = next_repeats(&mut words)?;
+    let target = next_pacing(&mut words)?;
+    let start = next_time(&mut words)?;
+    let stop_at_once = next_flag(&mut words)?;
+    let named = next_maybe(&mut words)?;
+    if !words.is_over() {
+        return None;
     }
+    let Ok(priority) = u32::try_from(priority) else {
+        return Some(Command::AddNowhere);
+    };
     let object = Object {
-        priority: priority as u32,
+        priority,
         part,
         own,
         most,
         carousel,
         target,
         start,
-        stop_at_once: stop,
+        stop_at_once,
     };
-    Command::Add { object, named }
+    Some(Command::Add { object, named })
 }

@@ -7,7 +7,10 @@ mod print;
 mod reply;
 mod store;
 
+use crate::play::Desk;
+use crate::store::Stores;
 use std::io::{Read, Write};
+use text::Lines;
 
 // Answers each line of the input, over two stores that are filled with known bytes.
 pub fn serve<R: Read, W: Write>(input: &mut R, to: &mut W) {
@@ -17,19 +20,17 @@ pub fn serve<R: Read, W: Write>(input: &mut R, to: &mut W) {
     let fdts: &mut [u8] = &mut fdt_space;
     store::fill(objects, false);
     store::fill(fdts, true);
-    answer_all(input, to, objects, fdts);
+    answer_all(input, to, &Stores { objects, fdts });
 }
 
-fn answer_all<'a, R: Read, W: Write>(input: &mut R, to: &mut W, objects: &'a [u8], fdts: &'a [u8]) {
+// The same over these stores. The lines are counted to a number that no run uses up, since a proved loop has to end.
+fn answer_all<R: Read, W: Write>(input: &mut R, to: &mut W, stores: &Stores) {
     let mut space = [0u8; 65536];
-    let buf: &mut [u8] = &mut space;
-    let mut desk = play::shut();
-    let mut lines = text::open_lines(input, buf);
-    while 0 < lines.left {
-        let command = command::read_command(text::this_line(buf, lines));
-        desk = play::play(desk, command);
-        let reply = desk.reply;
-        print::write_reply(to, objects, fdts, reply);
-        lines = text::next_line(input, buf, lines);
+    let mut lines = Lines::new(input, &mut space);
+    let mut desk = Desk::shut();
+    for _ in 0..u64::MAX {
+        let Some(line) = lines.next_line() else { break };
+        let reply = desk.play(command::read_command(line));
+        print::write_reply(to, stores, reply);
     }
 }

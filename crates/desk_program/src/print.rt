@@ -1,138 +1,143 @@
 // The text of a reply.
+ghost use Rattle.std.specs.Prelude.{◌≤◌};
+
 use crate::reply::Reply;
-use crate::store::payload_sum;
-use sender::blockencoder::Symbol;
+use crate::store::Stores;
+use drain_program::Transfer;
 use sender::sender::Packet;
-use sizes::partition::Partition;
-use sizes::refusal::number_of;
+use std::fmt;
+use std::fmt::Write as _;
 use std::io::Write;
 
+// A line that is put together in fixed memory and written at once. No reply is longer.
+#[derive(Drop)]
+struct Line {
+    bytes: [u8; 512],
+    used: usize,
+    ghost inside: { used ≤ 512 },
+}
+
+impl fmt::Write for Line {
+    fn write_str(&mut self, text: &str) -> fmt::Result {
+        let text = text.as_bytes();
+        if self.bytes.len() - self.used < text.len() {
+            return Err(fmt::Error);
+        }
+        let end = self.used + text.len();
+        self.bytes[self.used..end].copy_from_slice(text);
+        self.used = end;
+        Ok(())
+    }
+}
+
+// A number, or a dash where there is none.
+#[derive(Clone, Copy)]
+struct Dashed(Option<u64>);
+
+impl fmt::Display for Dashed {
+    fn fmt<W: fmt::Write>(&self, f: &mut fmt::Formatter<W>) -> fmt::Result {
+        match self.0 {
+            Some(n) => write!(f, "{n}"),
+            None => write!(f, "-"),
+        }
+    }
+}
+
+// A packet, and the checksum of its payload: `packet KIND TOI ID SBN ESI CLOSE TOTAL SYMBOLS LENGTH START SUM`.
+#[derive(Clone, Copy)]
+struct Summed {
+    packet: Packet,
+    sum: u64,
+}
+
+impl fmt::Display for Summed {
+    fn fmt<W: fmt::Write>(&self, f: &mut fmt::Formatter<W>) -> fmt::Result {
+        let p = self.packet;
+        let y = p.symbol;
+        let kind = if p.is_fdt { "fdt" } else { "obj" };
+        let id = Dashed(p.is_fdt.then_some(u64::from(p.fdt_id)));
+        let start = Dashed((0 < y.payload.size).then_some(y.payload.start));
+        write!(f, "packet {kind} {} {id} {} {}", p.toi, y.sbn.0, y.esi.0)?;
+        write!(f, " {} {} {}", y.close as u8, y.transfer_length, y.symbols)?;
+        write!(f, " {} {start} {}", y.payload.size, self.sum)
+    }
+}
+
+// A reply of one word, or of one number.
+#[derive(Clone, Copy)]
+struct Short(Reply);
+
+impl fmt::Display for Short {
+    fn fmt<W: fmt::Write>(&self, f: &mut fmt::Formatter<W>) -> fmt::Result {
+        match self.0 {
+            Reply::Error => write!(f, "error"),
+            Reply::Done => write!(f, "ok"),
+            Reply::Truth(true) => write!(f, "yes"),
+            Reply::Truth(false) => write!(f, "no"),
+            Reply::Number(None) => write!(f, "none"),
+            Reply::Number(Some(n)) => write!(f, "{n}"),
+            Reply::Refused(why) => write!(f, "refused {}", u32::from(why)),
+            Reply::Toi(n) => write!(f, "toi {n}"),
+            _ => Ok(()),
+        }
+    }
+}
+
 // Writes the answer to a line; nothing where it has none.
-pub fn write_reply<'a, W: Write>(to: &mut W, objects: &'a [u8], fdts: &'a [u8], reply: Reply) {
+pub fn write_reply<W: Write>(to: &mut W, stores: &Stores, reply: Reply) {
     match reply {
         Reply::Silent => {}
-        Reply::Drained { l, e, b, w } => write_drained(to, l, e, b, w),
-        _ => write_line(to, objects, fdts, reply),
+        Reply::Drained(t) => write_drained(to, t),
+        _ => write_line(to, stores, reply),
     }
 }
 
 // The lines of a transfer, then `end`; or `refused`.
-fn write_drained<W: Write>(to: &mut W, l: u64, e: u64, b: u64, w: u64) {
-    if drain_program::write_lines(to, l, e, b, w) {
+fn write_drained<W: Write>(to: &mut W, t: Transfer) {
+    if drain_program::write_lines(to, t) {
         text::write_all(to, b"end\n");
     }
 }
 
 // An answer of one line.
-fn write_line<'a, W: Write>(to: &mut W, objects: &'a [u8], fdts: &'a [u8], reply: Reply) {
-    let mut space = [0u8; 512];
-    let out: &mut [u8] = &mut space;
-    let at = put_reply(out, objects, fdts, reply);
-    let end = text::put_text(out, at, b"\n");
-    text::write_all(to, text::part(out, 0, end));
+fn write_line<W: Write>(to: &mut W, stores: &Stores, reply: Reply) {
+    let mut line = Line {
+        bytes: [0; 512],
+        used: 0,
+    };
+    let _ = put_reply(&mut line, stores, reply);
+    let _ = writeln!(line, "");
+    text::write_all(to, &line.bytes[..line.used]);
 }
 
-// A reply that is one word.
-fn put_word(out: &mut [u8], reply: Reply) -> usize {
+// Puts the text of a reply into the line; a transfer's lines are written elsewhere.
+fn put_reply(line: &mut Line, stores: &Stores, reply: Reply) -> fmt::Result {
     match reply {
-        Reply::Error => text::put_text(out, 0, b"error"),
-        Reply::Done => text::put_text(out, 0, b"ok"),
-        Reply::Yes => text::put_text(out, 0, b"yes"),
-        Reply::No => text::put_text(out, 0, b"no"),
-        Reply::Missing => text::put_text(out, 0, b"none"),
-        Reply::Nothing => text::put_text(out, 0, b"nothing"),
-        _ => 0,
-    }
-}
-
-// A reply of one number, or of one word.
-fn put_short(out: &mut [u8], reply: Reply) -> usize {
-    match reply {
-        Reply::Refused(why) => put_named(out, b"refused ", number_of(why) as u64),
-        Reply::Toi(n) => put_named(out, b"toi ", n),
-        Reply::Number(n) => text::put_number(out, 0, n),
-        _ => put_word(out, reply),
-    }
-}
-
-// Puts the text of a reply at the front of out, and answers where it ends; a transfer's lines are written elsewhere.
-fn put_reply<'a>(out: &mut [u8], objects: &'a [u8], fdts: &'a [u8], reply: Reply) -> usize {
-    match reply {
-        Reply::Sent(p) => put_packet(out, p, payload_sum(objects, fdts, p)),
-        Reply::NoFdt(taken) => {
-            let at = text::put_text(out, 0, b"nothing");
-            put_taken(out, at, taken)
-        }
+        Reply::Sent(packet) => put_sent(line, stores, packet),
         Reply::SentFdt { taken, packet } => {
-            let at = put_packet(out, packet, payload_sum(objects, fdts, packet));
-            put_taken(out, at, taken)
+            put_sent(line, stores, packet)?;
+            write!(line, " taken {}", taken as u8)
         }
-        Reply::Cut(p) => put_partition(out, p),
-        Reply::Written { record, room } => record_program::put_written(out, record, room),
-        Reply::Fields(r) => record_program::put_fields(out, r),
-        _ => put_short(out, reply),
+        Reply::Cut(p) => {
+            let (large, small) = (p.large, p.small);
+            write!(line, "{large} {small} {} {}", p.nb_a_large, p.blocks)
+        }
+        Reply::Written(w) => {
+            line.used = w.put_written(&mut line.bytes).min(512);
+            Ok(())
+        }
+        Reply::Fields(r) => write!(line, "{}", record_program::Fields(r)),
+        _ => write!(line, "{}", Short(reply)),
     }
 }
 
-// A word and a number.
-fn put_named(out: &mut [u8], name: &[u8], n: u64) -> usize {
-    let at = text::put_text(out, 0, name);
-    text::put_number(out, at, n)
-}
-
-// A blank and a number behind the first `at` bytes, or a blank and a dash where there is no number.
-fn put_maybe(out: &mut [u8], at: usize, given: bool, n: u64) -> usize {
-    if given {
-        return text::put_next(out, at, n);
+// A run's packet, or `nothing`.
+fn put_sent(line: &mut Line, stores: &Stores, sent: Option<Packet>) -> fmt::Result {
+    match sent {
+        Some(packet) => {
+            let sum = stores.payload_sum(packet);
+            write!(line, "{}", Summed { packet, sum })
+        }
+        None => write!(line, "nothing"),
     }
-    text::put_text(out, at, b" -")
-}
-
-// Was the draft taken?
-fn put_taken(out: &mut [u8], at: usize, taken: bool) -> usize {
-    let from = text::put_text(out, at, b" taken");
-    text::put_next(out, from, taken as u64)
-}
-
-fn put_partition(out: &mut [u8], p: Partition) -> usize {
-    let a = text::put_number(out, 0, p.large);
-    let b = text::put_next(out, a, p.small);
-    let c = text::put_next(out, b, p.nb_a_large);
-    text::put_next(out, c, p.blocks)
-}
-
-// `packet KIND TOI ID SBN ESI CLOSE TOTAL SYMBOLS LENGTH START SUM`.
-fn put_packet(out: &mut [u8], p: Packet, sum: u64) -> usize {
-    let y = p.symbol;
-    let part = y.payload;
-    let a = put_file(out, p);
-    let b = put_symbol(out, a, y);
-    let c = text::put_next(out, b, part.size);
-    let d = put_maybe(out, c, part.size > 0, part.start);
-    text::put_next(out, d, sum)
-}
-
-// Up to ID.
-fn put_file(out: &mut [u8], p: Packet) -> usize {
-    let a = put_kind(out, p.is_fdt);
-    let b = text::put_next(out, a, p.toi);
-    put_maybe(out, b, p.is_fdt, p.fdt_id as u64)
-}
-
-// From SBN to SYMBOLS.
-fn put_symbol(out: &mut [u8], at: usize, y: Symbol) -> usize {
-    let block = y.sbn;
-    let symbol = y.esi;
-    let a = text::put_next(out, at, block.0 as u64);
-    let b = text::put_next(out, a, symbol.0 as u64);
-    let c = text::put_next(out, b, y.close as u64);
-    let d = text::put_next(out, c, y.transfer_length);
-    text::put_next(out, d, y.symbols)
-}
-
-fn put_kind(out: &mut [u8], is_fdt: bool) -> usize {
-    if is_fdt {
-        return text::put_text(out, 0, b"packet fdt");
-    }
-    text::put_text(out, 0, b"packet obj")
 }

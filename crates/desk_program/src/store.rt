@@ -7,7 +7,7 @@ ghost use Rattle.desk_program.specs.Stores.{byte_at, Filled, period_of, nearer_o
 
 use lifecycle::parts::{Part, ends_past};
 use sender::payload::payload;
-use sender::sender::{Packet, RunAnswer};
+use sender::sender::Packet;
 
 // Memory for a store: a period, and the longest payload behind it.
 pub(crate) fn space() -> [u8; 131072]
@@ -32,14 +32,13 @@ fn store_byte(is_fdt: bool, i: usize) -> u8
 }
 
 // Fills a store.
+#[tactic(auto, unfolding(crate::specs::Stores::Filled))]
 pub(crate) fn fill(store: &mut [u8], is_fdt: bool)
     requires { length store.old ≤ 131072 }
     ensures { Filled is_fdt store.new }
 {
-    let mut i = 0;
-    while i < store.len() {
-        store[i] = store_byte(is_fdt, i);
-        i += 1;
+    for (i, b) in store.iter_mut().enumerate() {
+        *b = store_byte(is_fdt, i);
     }
 }
 
@@ -60,27 +59,30 @@ fn nearer(is_fdt: bool, c: Part) -> Part
     }
 }
 
-// The checksum of a packet's payload.
-pub fn payload_sum<'a>(objects: &'a [u8], fdts: &'a [u8], p: Packet) -> u64 {
-    let y = p.symbol;
-    let c = y.payload;
-    if ends_past(KEPT, c) {
-        return checksum(payload(
-            objects,
-            fdts,
-            RunAnswer::Packet(moved(p, nearer(p.is_fdt, c))),
-        ));
+// The bytes of the two stores.
+#[derive(Clone, Copy)]
+pub struct Stores<'a> {
+    pub objects: &'a [u8],
+    pub fdts: &'a [u8],
+}
+
+impl<'a> Stores<'a> {
+    // The checksum of a packet's payload.
+    pub fn payload_sum(&self, p: Packet) -> u64 {
+        let c = p.symbol.payload;
+        let near = if ends_past(KEPT, c) {
+            moved(p, nearer(p.is_fdt, c))
+        } else {
+            p
+        };
+        checksum(payload(self.objects, self.fdts, Ok(Some(near))))
     }
-    checksum(payload(objects, fdts, RunAnswer::Packet(p)))
 }
 
 // The packet with another place for its payload.
-fn moved(p: Packet, c: Part) -> Packet {
-    let mut y = p.symbol;
-    y.payload = c;
-    let mut q = p;
-    q.symbol = y;
-    q
+fn moved(mut p: Packet, c: Part) -> Packet {
+    p.symbol.payload = c;
+    p
 }
 
 // A checksum with one more byte.
@@ -95,11 +97,9 @@ fn with_byte(sum: u64, b: u8) -> u64
 pub fn checksum(bytes: &[u8]) -> u64
     ensures { result ≡ sum_of 1 bytes.now }
 {
-    let mut sum: u64 = 1;
-    let mut i = 0;
-    while i < bytes.len() {
-        sum = with_byte(sum, bytes[i]);
-        i += 1;
+    let mut sum = 1;
+    for b in bytes {
+        sum = with_byte(sum, *b);
     }
     sum
 }

@@ -1,12 +1,12 @@
 -- Where a block begins, counted another way; what the lines of a transfer say.
 use mathlib.Core.Logic.{◌⊎◌, inl, inr, ⊎_elim}
 use mathlib.Core.Path.{◌≡◌, refl, sym, ◌∙◌, ap, subst}
-use mathlib.Core.Bool.{true, false, not, ◌&&◌, ◌||◌}
+use mathlib.Core.Bool.{true, false, not, ◌||◌}
 use Prim.Native.Nat.{ℕ, ◌+◌, ◌-◌, ◌*◌, ◌/◌, ◌%◌, ◌≤◌, ◌<◌}
 use native.Mathlib.Nat.{add-mul, mul-add, mul-one, zero-mul, le-mul_of_pos_right, div-add-mod'}
 use native.Mathlib.Omega.{arith}
-use lib.Dec.{ltb, leb, eqb}
-use borrow.Author.Tests.{ltb-false, eqb-false, le-ltb, lt-ltb, le-leb, lt-leb, not-false}
+use lib.Dec.{ltb, eqb}
+use borrow.Author.Tests.{ltb-false, eqb-false, not-false}
 use Rattle.sizes.specs.Words.{ceil, within}
 use Rattle.sizes.specs.Limits.{wide, largest_window, longest_store}
 use Rattle.sizes.specs.Partition.{symbols_of, split, partition_of, first_symbol, block_start}
@@ -16,7 +16,7 @@ use Rattle.sizes.proofs.Tests.{or_left, or_right, if_on}
 use Rattle.sizes.proofs.Arithmetic.{ceil_cases, ceil_some}
 use Rattle.sizes.proofs.Lengths.{before_large, before_small}
 use Rattle.lifecycle.specs.Setup.{bad_blocks}
-use Rattle.lifecycle.proofs.SetupLaws.{in_range, sizes_sound, blocks_counted}
+use Rattle.lifecycle.proofs.SetupLaws.{in_range}
 use Rattle.sender.specs.EncoderCalls.{Sound, ValidEncoder, offset_of, new_of}
 use Rattle.sender.specs.EncoderPromises.{Shown, named}
 use Rattle.drain_program.specs.DrainCalls.{drain_refuses}
@@ -103,29 +103,6 @@ module _ (c : Content) (s : Sound c) where
 -- ---- what is refused
 
 module _ (l e b w : ℕ) where
-  pub no_window : w ≡ 0 → drain_refuses l e b w ≡ true
-  unfolding drain_refuses
-  no_window h = ap (λ t. not (t && leb w largest_window) || (ltb longest_store l || bad_blocks (record { e = e; b = b }) l)) (lt-leb 1 w (omega arith))
-
-  in_window : (w ≡ 0 → ⊥) → w ≤ largest_window → within 1 largest_window w ≡ true
-  in_window g h = ap (λ t. t && leb w largest_window) (le-leb 1 w (omega arith)) ∙ le-leb w largest_window h
-
-  pub wide_window : (w ≡ 0 → ⊥) → largest_window < w → drain_refuses l e b w ≡ true
-  unfolding drain_refuses
-  wide_window g h = ap (λ t. not (t && leb w largest_window) || (ltb longest_store l || bad_blocks (record { e = e; b = b }) l)) (le-leb 1 w (omega arith))
-      ∙ ap (λ t. not t || (ltb longest_store l || bad_blocks (record { e = e; b = b }) l)) (lt-leb w largest_window h)
-
-  module _ (g : w ≡ 0 → ⊥) (h : w ≤ largest_window) where
-    rest : drain_refuses l e b w ≡ (ltb longest_store l || bad_blocks (record { e = e; b = b }) l)
-    unfolding drain_refuses
-    rest = ap (λ t. not t || (ltb longest_store l || bad_blocks (record { e = e; b = b }) l)) (in_window g h)
-
-    pub too_long : longest_store < l → drain_refuses l e b w ≡ true
-    too_long f = rest ∙ ap (λ t. t || bad_blocks (record { e = e; b = b }) l) (lt-ltb longest_store l f)
-
-    pub by_blocks : l ≤ longest_store → drain_refuses l e b w ≡ bad_blocks (record { e = e; b = b }) l
-    by_blocks f = rest ∙ ap (λ t. t || bad_blocks (record { e = e; b = b }) l) (le-ltb longest_store l f)
-
   -- what is not refused is an encoder's
   pub begun_valid : drain_refuses l e b w ≡ false → ValidEncoder (new_of (record { start = 0; size = l }) (record { e = e; b = b }) w true)
   unfolding drain_refuses new_of
@@ -137,8 +114,3 @@ module _ (l e b w : ℕ) where
       let f = ltb-false longest_store l (or_left m d t) in
       let i = in_range 1 largest_window w (not-false (within 1 largest_window w) (or_left a (m || d) h)) in
       new_sound (record { start = 0; size = l }) (record { e = e; b = b }) w true (record { cut = refl; sizes = or_right m d t; fits = omega arith }) i.1
-
--- a transfer of nothing is admitted
-pub nothing_admitted : drain_refuses 0 1 1 1 ≡ false
-unfolding drain_refuses partition_of symbols_of ceil
-nothing_admitted = blocks_counted (record { e = 1; b = 1 }) 0 (sizes_sound (record { e = 1; b = 1 }) refl refl)

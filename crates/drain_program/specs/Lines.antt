@@ -2,7 +2,6 @@
 use Rattle.std.specs.Prelude.{cond, List, [], ◌∷◌, ◌++◌, ℕ}
 use Rattle.text.specs.Put.{decimal}
 use Rattle.drain_program.specs.declared.drain.Line.{Line}
-use Rattle.drain_program.specs.declared.drain.Line.TheVariants.{Packet, Over}
 
 -- a number in decimal, and one byte behind it
 unfoldable pub field : ℕ → ℕ → List ℕ
@@ -17,6 +16,5 @@ most_line = 126
 
 -- six numbers, with spaces (32) between them and a line feed (10) behind them
 unfoldable pub line_text : Line → List ℕ
-line_text (Packet block symbol symbols start size close) =
-    field block.0 32 ++ field symbol.0 32 ++ field symbols 32 ++ field start 32 ++ field size 32 ++ field (cond close 1 0) 10
-line_text Over = []
+line_text p =
+    field p.block.0 32 ++ field p.symbol.0 32 ++ field p.symbols 32 ++ field p.start 32 ++ field p.length 32 ++ field (cond p.close 1 0) 10

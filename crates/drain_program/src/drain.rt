@@ -8,73 +8,53 @@ ghost use Rattle.drain_program.specs.DrainCalls.{drain_refuses, packet_line, Dra
 
 use lifecycle::fdt::are_bad_blocks;
 use lifecycle::parts::Part;
-use sender::blockencoder::{BlockEncoder, Content, Emitted, Symbol};
-use sizes::limits::{LARGEST_WINDOW, LONGEST_STORE};
+use sender::blockencoder::{BlockEncoder, Content, Symbol};
+use sizes::limits::{LARGEST_NAMED_WINDOW, LONGEST_STORE};
 use sizes::numbers::{Esi, Sbn};
 use sizes::partition::Sizes;
 
-// The largest window, as a line names it.
-const LARGEST_NAMED_WINDOW: u64 = LARGEST_WINDOW as u64;
-
-// What a line says, or that the transfer is over.
+// The numbers of a transfer: its length, E and B, and how many blocks are open at a time.
 #[derive(Clone, Copy)]
-pub enum Line {
-    Packet {
-        block: Sbn,
-        symbol: Esi,
-        symbols: u64,
-        start: u64,
-        length: u64,
-        close: bool,
-    },
-    Over,
+pub struct Transfer {
+    pub l: u64,
+    pub e: u64,
+    pub b: u64,
+    pub w: u64,
 }
 
+// What the line of a packet says.
 #[derive(Clone, Copy)]
-pub struct Turned {
-    pub line: Line,
-    pub encoder: BlockEncoder,
-}
-
-// Whether the numbers are admitted, and the transfer; where they are not, that of nothing.
-#[derive(Clone, Copy)]
-pub struct Begun {
-    pub ok: bool,
-    pub encoder: BlockEncoder,
+pub struct Line {
+    pub block: Sbn,
+    pub symbol: Esi,
+    pub symbols: u64,
+    pub start: u64,
+    pub length: u64,
+    pub close: bool,
 }
 
 // Is a number out of range, or are there too many blocks?
-fn is_refused(l: u64, e: u64, b: u64, w: u64) -> bool
-    ensures { result ≡ drain_refuses l e b w }
+#[tactic(auto, unfolding(crate::specs::DrainCalls::drain_refuses))]
+fn is_refused(t: Transfer) -> bool
+    ensures { result ≡ drain_refuses t.l t.e t.b t.w }
 {
-    if w == 0 {
-        return true;
-    }
-    if LARGEST_NAMED_WINDOW < w {
-        return true;
-    }
-    if LONGEST_STORE < l {
-        return true;
-    }
-    are_bad_blocks(Sizes { e, b }, l)
+    let sizes = Sizes { e: t.e, b: t.b };
+    t.w == 0 || LARGEST_NAMED_WINDOW < t.w || LONGEST_STORE < t.l || are_bad_blocks(sizes, t.l)
 }
 
-// The transfer of l bytes in symbols of e, blocks of at most b symbols and w blocks at a time.
-pub fn begin(l: u64, e: u64, b: u64, w: u64) -> Begun
-    ensures { DrainBegins l e b w result }
+// The transfer, where its numbers are admitted.
+pub fn begin(t: Transfer) -> Option<BlockEncoder>
+    ensures { DrainBegins t.l t.e t.b t.w result }
 {
-    if is_refused(l, e, b, w) {
-        let nothing = Part { start: 0, size: 0 };
-        return Begun {
-            ok: false,
-            encoder: BlockEncoder::new(nothing, Sizes { e: 1, b: 1 }, 1, true),
-        };
+    if is_refused(t) {
+        return None;
     }
-    let all = Part { start: 0, size: l };
-    Begun {
-        ok: true,
-        encoder: BlockEncoder::new(all, Sizes { e, b }, w as usize, true),
-    }
+    let all = Part {
+        start: 0,
+        size: t.l,
+    };
+    let sizes = Sizes { e: t.e, b: t.b };
+    Some(BlockEncoder::new(all, sizes, t.w as usize, true))
 }
 
 // Where a block begins, in bytes: each block before it has the small count, and each large one a symbol more.
@@ -96,37 +76,21 @@ fn line_for(c: Content, s: Symbol) -> Line
     requires { Sound c × Shown c s }
     ensures { result ≡ packet_line c (symbol_said s) }
 {
-    let block = s.sbn;
-    let symbol = s.esi;
-    let e = c.sizes.e;
-    let start = block_start(c, block);
-    Line::Packet {
-        block,
-        symbol,
+    Line {
+        block: s.sbn,
+        symbol: s.esi,
         symbols: s.symbols,
-        start: start + symbol.0 as u64 * e,
+        start: block_start(c, s.sbn) + s.esi.0 as u64 * c.sizes.e,
         length: s.payload.size,
         close: s.close,
     }
 }
 
-// The next line.
-pub fn turn(x: BlockEncoder) -> Turned
-    requires { ValidEncoder x }
-    ensures { Turns x result }
+// The next line, or none where the transfer is over.
+pub fn turn(x: &mut BlockEncoder) -> Option<Line>
+    requires { ValidEncoder x.old }
+    ensures { Turns x.old (record { line = result; encoder = x.new }) }
 {
-    let content = x.content;
-    let r = x.read(false);
-    let encoder = r.encoder;
-    let answer = r.answer;
-    let Emitted::One(s) = answer else {
-        return Turned {
-            line: Line::Over,
-            encoder,
-        };
-    };
-    Turned {
-        line: line_for(content, s),
-        encoder,
-    }
+    let symbol = x.read(false)?;
+    Some(line_for(x.content, symbol))
 }

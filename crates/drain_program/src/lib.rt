@@ -12,30 +12,31 @@ ghost use Rattle.drain_program.specs.DrainCalls.{drain_refuses};
 ghost use Rattle.drain_program.specs.Lines.{field, line_text, most_field, most_line};
 
 use crate::drain::Line;
+pub use drain::Transfer;
 use sender::blockencoder::BlockEncoder;
 use std::io::Write;
-use text::Field;
+use text::Words;
 
 // Writes the answer to one line.
 pub fn answer<W: Write>(to: &mut W, line: &[u8]) {
-    let Four::Numbers { l, e, b, w } = read_four(line) else {
-        refuse(to);
-        return;
-    };
-    write_lines(to, l, e, b, w);
+    match read_transfer(line) {
+        Some(t) => {
+            write_lines(to, t);
+        }
+        None => refuse(to),
+    }
 }
 
 // Writes the lines of a transfer with these numbers and answers true; or writes `refused`, where they are not
 // admitted, and answers false.
-pub fn write_lines<W: Write>(to: &mut W, l: u64, e: u64, b: u64, w: u64) -> bool
-    ensures { result ≡ not (drain_refuses l e b w) }
+pub fn write_lines<W: Write>(to: &mut W, t: Transfer) -> bool
+    ensures { result ≡ not (drain_refuses t.l t.e t.b t.w) }
 {
-    let begun = drain::begin(l, e, b, w);
-    if !begun.ok {
+    let Some(encoder) = drain::begin(t) else {
         refuse(to);
         return false;
-    }
-    send(to, begun.encoder);
+    };
+    send(to, encoder);
     true
 }
 
@@ -43,33 +44,17 @@ fn refuse<W: Write>(to: &mut W) {
     text::write_all(to, b"refused\n");
 }
 
-// The four numbers of a line, or that it has something else.
-#[derive(Clone, Copy)]
-enum Four {
-    Numbers { l: u64, e: u64, b: u64, w: u64 },
-    Bad,
-}
-
-fn read_four(line: &[u8]) -> Four {
+// The four numbers of a line, if it has these and nothing else.
+fn read_transfer(line: &[u8]) -> Option<Transfer> {
     if text::LONGEST < line.len() {
-        return Four::Bad;
+        return None;
     }
-    let Field::Value { value: l, next: i } = text::next_number(line, 0) else {
-        return Four::Bad;
-    };
-    let Field::Value { value: e, next: j } = text::next_number(line, i) else {
-        return Four::Bad;
-    };
-    let Field::Value { value: b, next: k } = text::next_number(line, j) else {
-        return Four::Bad;
-    };
-    let Field::Value { value: w, next } = text::next_number(line, k) else {
-        return Four::Bad;
-    };
-    if !text::ended(line, next) {
-        return Four::Bad;
-    }
-    Four::Numbers { l, e, b, w }
+    let mut words = Words::new(line);
+    let l = words.next_number().ok()?;
+    let e = words.next_number().ok()?;
+    let b = words.next_number().ok()?;
+    let w = words.next_number().ok()?;
+    words.is_over().then_some(Transfer { l, e, b, w })
 }
 
 // Writes the lines of a transfer. The turns are counted down, from a number that no run uses up, since a proved loop
@@ -81,23 +66,14 @@ fn send<W: Write>(to: &mut W, x: BlockEncoder)
     let out: &mut [u8] = &mut space;
     let mut used = 0;
     let mut encoder = x;
-    let mut turns = u64::MAX;
-    while turns > 0 {
-        let next = drain::turn(encoder);
-        let line = next.line;
-        if is_over(line) {
+    for _ in 0..u64::MAX {
+        let Some(line) = drain::turn(&mut encoder) else {
             break;
-        }
+        };
         used = make_room(to, out, used);
         used = put_line(out, used, line);
-        encoder = next.encoder;
-        turns -= 1;
     }
     text::write_all(to, text::part(out, 0, used));
-}
-
-fn is_over(line: Line) -> bool {
-    if let Line::Over = line { true } else { false }
 }
 
 // How long a line's text can be: six numbers of at most 20 digits, each with a byte behind it.
@@ -120,23 +96,12 @@ fn put_line(out: &mut [u8], at: usize, line: Line) -> usize
     requires { at + most_line ≤ length out.old }
     ensures { Appended out.old at (line_text line) out.new result }
 {
-    let Line::Packet {
-        block,
-        symbol,
-        symbols,
-        start,
-        length,
-        close,
-    } = line
-    else {
-        return at;
-    };
-    let a = put(out, at, block.0 as u64, b' ');
-    let b = put(out, a, symbol.0 as u64, b' ');
-    let c = put(out, b, symbols, b' ');
-    let d = put(out, c, start, b' ');
-    let e = put(out, d, length, b' ');
-    put(out, e, close as u64, b'\n')
+    let a = put(out, at, line.block.0 as u64, b' ');
+    let b = put(out, a, line.symbol.0 as u64, b' ');
+    let c = put(out, b, line.symbols, b' ');
+    let d = put(out, c, line.start, b' ');
+    let e = put(out, d, line.length, b' ');
+    put(out, e, line.close as u64, b'\n')
 }
 
 // The same for a number in decimal and one byte.

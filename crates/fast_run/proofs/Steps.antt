@@ -1,10 +1,11 @@
 -- A packet in the middle of a transfer.
-use mathlib.Core.Path.{◌≡◌, refl, sym, ◌∙◌, ap}
-use mathlib.Core.Bool.{Bool, true, false, not, ◌&&◌, and-false, true≢false}
+use mathlib.Core.Path.{◌≡◌, refl, sym, ◌∙◌, ap, subst}
+use mathlib.Core.Bool.{Bool, true, false, not, ◌&&◌, and-false}
+use Rattle.std.specs.Prelude.{Option, None, Some}
 use Prim.Native.Nat.{ℕ, ◌+◌, ◌<◌}
 use native.Mathlib.Omega.{arith}
 use lib.Dec.{eqb, ltb}
-use borrow.Author.Tests.{eqb-true, eq-eqb, not-true}
+use borrow.Author.Tests.{eqb-true, not-true}
 use Rattle.sizes.specs.Words.{when◌then◌else◌}
 use Rattle.sizes.specs.Limits.{wide}
 use Rattle.sizes.specs.Partition.{esi}
@@ -19,15 +20,13 @@ use Rattle.sender.specs.SessionCalls.{forced_slot}
 use Rattle.sender.specs.SenderCalls.{answer_of}
 use Rattle.sender.specs.declared.blockencoder.BlockEncoder.{BlockEncoder}
 use Rattle.sender.specs.declared.blockencoder.Visit.{Visit}
-use Rattle.sender.specs.declared.blockencoder.Glance.{Glance}
-use Rattle.sender.specs.declared.blockencoder.Glance.TheVariants as GlanceV
 use Rattle.sender.specs.declared.sendersession.SenderSession.{SenderSession}
 use Rattle.sender.specs.declared.sendersession.Outcome.TheVariants as OutcomeV
 use Rattle.sender.proofs.EncoderReads.{glance_steps}
 use Rattle.host_structs.specs.Answers.{run_told}
 use Rattle.host_structs.specs.declared.answers.Sent.{Sent}
 use Rattle.fast_run.specs.Settle.{ValidSession, settled_as}
-use Rattle.fast_run.specs.Quick.{is_due, no_numbers, numbers_by, numbers_of, with_esi, with_index, Quick, Glances}
+use Rattle.fast_run.specs.Quick.{is_due, numbers_by, numbers_of, with_esi, with_index, Quick, Glances}
 use Rattle.fast_run.specs.declared.quick.Numbers.{Numbers}
 use Rattle.fast_run.specs.declared.Settled.{Settled}
 use Rattle.fast_run.proofs.Cases.{sends}
@@ -55,11 +54,6 @@ due_told w now t x e =
       due = not-true (too_early now (pace_said x.pace)) (and_right c d e);
     }
 
--- the last of its tests
-pub due_by : (w now : ℕ) (t : Slot) (x : SenderSession) → w ≡ 0 → x.busy ≡ true → t.listed ≡ true → is_due w now t x ≡ not (too_early now (pace_said x.pace))
-unfolding is_due
-due_by w now t x a b c = rw (eq-eqb w 0 a, b, c)
-
 -- a tick changes only the due time
 due_if : (p : Pace) (d : ℕ) (b : Bool) → p.paced ≡ b → (when b then record { paced = true; due = d; tick = p.tick } else p) ≡ record { paced = p.paced; due = (when b then record { paced = true; due = d; tick = p.tick } else p).due; tick = p.tick }
 due_if p d true e = ap (λ (b : Bool). record { paced = b; due = d; tick = p.tick }) (sym e)
@@ -80,13 +74,13 @@ unforced t h = rw (h, and-false)
 
 module _ (w now : ℕ) (t : Slot) (x : SenderSession) (ok : ValidSession x) (b : Bool) (asked : b ≡ is_due w now t x) where
   -- no numbers settle nothing
-  unsettled : (r : Numbers) → r ≡ no_numbers → r.done ≡ true → Quick w now t x r
-  unsettled r q d = absurd (true≢false (sym d ∙ ap (λ (n : Numbers). n.done) q))
+  unsettled : (r : Option Numbers) → r ≡ None → (n : Numbers) → r ≡ Some n → Quick w now t x n
+  unsettled r q n d = let z : None ≡ Some n = sym q ∙ d in cc
 
   -- no packet is due
-  pub passes : b ≡ false → (r : Numbers) → r ≡ no_numbers → Glances w now t x r
+  pub passes : b ≡ false → Glances w now t x None
   unfolding numbers_of
-  passes e r q = record { exact = rw (sym asked ∙ e) q; settles = unsettled r q }
+  passes e = record { exact = rw (sym asked ∙ e); settles = unsettled None refl }
 
   module _ (yes : b ≡ true) where
     due : Due w now t x
@@ -95,14 +89,14 @@ module _ (w now : ℕ) (t : Slot) (x : SenderSession) (ok : ValidSession x) (b :
     pub valid : ValidEncoder x.encoder
     valid = ok.busy due.busy
 
-    module _ (y : Glance) (seen : y ≡ glance_of x.encoder) where
+    module _ (y : Option Visit) (seen : y ≡ glance_of x.encoder) where
       -- another packet is
-      pub declines : y ≡ GlanceV.Other → (r : Numbers) → r ≡ no_numbers → Glances w now t x r
+      pub declines : y ≡ None → Glances w now t x None
       unfolding numbers_of
-      declines h r q = record { exact = rw (sym asked ∙ yes, sym seen ∙ h) q; settles = unsettled r q }
+      declines h = record { exact = rw (sym asked ∙ yes, sym seen ∙ h); settles = unsettled None refl }
 
       -- one in the middle of a transfer is
-      module _ (v : Visit) (h : y ≡ GlanceV.One v) where
+      module _ (v : Visit) (h : y ≡ Some v) where
         pub steps : Steps x.encoder v
         steps = glance_steps x.encoder valid v (sym seen ∙ h)
 
@@ -111,19 +105,22 @@ module _ (w now : ℕ) (t : Slot) (x : SenderSession) (ok : ValidSession x) (b :
 
         -- what the host is told, and the session, by its pace and encoder
         abbrev after : Pace → BlockEncoder → Settled
-        after p z = settled_as true (answer_of false t.file.toi 0 (OutcomeV.Sent v.symbol)) (record { priority = x.priority; busy = x.busy; slot = x.slot; pace = p; encoder = z })
+        after p z = settled_as (answer_of false t.file.toi 0 (OutcomeV.Sent v.symbol)) (record { priority = x.priority; busy = x.busy; slot = x.slot; pace = p; encoder = z })
 
-        quick : Quick w now t x (numbers_by t.file.toi x (GlanceV.One v))
+        quick : Quick w now t x (numbers_by t.file.toi x v)
         quick = record {
           exact = sends w now t x due.busy due.none due.due false (unforced t due.listed) _ (sym steps.read) v.symbol refl
-              ∙ ap (after (ticked_of x.pace)) (moved_only x.encoder v steps) ∙ ap (λ (p : Pace). after p (with_index (with_esi x.encoder v.place (esi (v.symbol.esi.0 + 1))) (v.place + 1))) (due_only x.pace);
+              ∙ ap (λ (z : BlockEncoder). Some (after (ticked_of x.pace) z)) (moved_only x.encoder v steps) ∙ ap (λ (p : Pace). Some (after p (with_index (with_esi x.encoder v.place (esi (v.symbol.esi.0 + 1))) (v.place + 1)))) (due_only x.pace);
           place = within;
         }
 
         pub glances : (n : Pace) → n ≡ ticked_of x.pace → (a : Sent) → a ≡ run_told false (answer_of false t.file.toi 0 (OutcomeV.Sent v.symbol))
-            → Glances w now t x (record { done = true; place = v.place; esi = esi (v.symbol.esi.0 + 1); next = v.place + 1; due = n.due; answer = a })
+            → Glances w now t x (Some (record { place = v.place; esi = esi (v.symbol.esi.0 + 1); next = v.place + 1; due = n.due; answer = a }))
         unfolding numbers_of
         glances n en a ea =
-            let q : record { done = true; place = v.place; esi = esi (v.symbol.esi.0 + 1); next = v.place + 1; due = n.due; answer = a } ≡ numbers_by t.file.toi x (GlanceV.One v)
-            = λ i. record { done = true; place = v.place; esi = esi (v.symbol.esi.0 + 1); next = v.place + 1; due = (en i).due; answer = ea i } in
-            record { exact = rw (sym asked ∙ yes, sym seen ∙ h) q; settles = λ d. rw q quick }
+            let q : record { place = v.place; esi = esi (v.symbol.esi.0 + 1); next = v.place + 1; due = n.due; answer = a } ≡ numbers_by t.file.toi x v
+            = λ i. record { place = v.place; esi = esi (v.symbol.esi.0 + 1); next = v.place + 1; due = (en i).due; answer = ea i } in
+            record {
+              exact = rw (sym asked ∙ yes, sym seen ∙ h) (ap Some q);
+              settles = λ m d. let z : record { place = v.place; esi = esi (v.symbol.esi.0 + 1); next = v.place + 1; due = n.due; answer = a } ≡ m = cc in subst (Quick w now t x) (sym q ∙ z) quick;
+            }

@@ -3,41 +3,38 @@
 
 pub mod quick;
 
-ghost use Rattle.std.specs.Prelude.{◌≡◌, true, false};
+ghost use Rattle.std.specs.Prelude.{◌≡◌, false};
 ghost use Rattle.sender.specs.SenderCalls.{answer_of};
-ghost use Rattle.sender.specs.declared.sender.RunAnswer.TheVariants as RunV;
 ghost use Rattle.sender.specs.declared.sendersession.Outcome.TheVariants as OutcomeV;
 ghost use Rattle.fast_run.specs.Settle.{ValidSession, settled_as, settled_of};
 
-use host_structs::answers::{Sent, run_told};
+use host_structs::answers::Sent;
 use lifecycle::slots::Slot;
-use sender::blockencoder::{Emitted, Symbol};
-use sender::sender::{Packet, RunAnswer};
+use sender::blockencoder::Symbol;
+use sender::sender::Packet;
 use sender::sendersession::{SenderSession, is_forced};
 
-// Is the run settled? Then what the host is told, and the session after it.
+// What the host is told of a run that is settled, and the session after it.
 #[repr(C)]
 #[derive(Clone, Copy)]
 pub struct Settled {
-    pub done: bool,
     pub answer: Sent,
     pub session: SenderSession,
 }
 
 // No packet.
-fn nothing(x: SenderSession, done: bool) -> Settled
-    ensures { result ≡ settled_as done RunV.Nothing x }
+fn nothing(session: SenderSession) -> Settled
+    ensures { result ≡ settled_as (Ok None) session }
 {
     Settled {
-        done,
-        answer: run_told(false, RunAnswer::Nothing),
-        session: x,
+        answer: Sent::from(Ok(None)),
+        session,
     }
 }
 
 // A packet of the object with number toi.
-fn one(x: SenderSession, toi: u64, symbol: Symbol) -> Settled
-    ensures { result ≡ settled_as true (answer_of false toi 0 (OutcomeV.Sent symbol)) x }
+fn one(session: SenderSession, toi: u64, symbol: Symbol) -> Settled
+    ensures { result ≡ settled_as (answer_of false toi 0 (OutcomeV.Sent symbol)) session }
 {
     let packet = Packet {
         is_fdt: false,
@@ -46,37 +43,24 @@ fn one(x: SenderSession, toi: u64, symbol: Symbol) -> Settled
         symbol,
     };
     Settled {
-        done: true,
-        answer: run_told(false, RunAnswer::Packet(packet)),
-        session: x,
+        answer: Sent::from(Ok(Some(packet))),
+        session,
     }
 }
 
 // With nothing in hand, or at the end of a transfer, the run is not settled here.
-pub fn settle(x: SenderSession, t: Slot, waiting: usize, now: u64) -> Settled
-    requires { ValidSession x }
-    ensures { result ≡ settled_of waiting now t x }
+pub fn settle(x: &SenderSession, t: &Slot, waiting: usize, at: u64) -> Option<Settled>
+    requires { ValidSession x.now }
+    ensures { result ≡ settled_of waiting at t.now x.now }
 {
-    if x.busy {
-        if waiting != 0 {
-            return nothing(x, true);
-        }
-        let pace = x.pace;
-        if pace.is_early(now) {
-            return nothing(x, true);
-        }
-        let r = x.encoder.read(is_forced(t));
-        let answer = r.answer;
-        let Emitted::One(symbol) = answer else {
-            return nothing(x, false);
-        };
-        let encoder = r.encoder;
-        let y = SenderSession {
-            pace: pace.ticked(),
-            encoder,
-            ..x
-        };
-        return one(y, t.file.toi, symbol);
+    if !x.busy {
+        return None;
     }
-    nothing(x, false)
+    if waiting != 0 || x.pace.is_early(at) {
+        return Some(nothing(*x));
+    }
+    let mut after = *x;
+    let symbol = after.encoder.read(is_forced(t))?;
+    after.pace = x.pace.ticked();
+    Some(one(after, t.file.toi, symbol))
 }

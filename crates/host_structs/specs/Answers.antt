@@ -1,21 +1,9 @@
 -- What the host is told: an answer by its numbers. A refusal has its number of the table; 0 is none.
-use Rattle.std.specs.Prelude.{Bool, true, false, ℕ}
-use Rattle.sizes.specs.Words.{when◌then◌else◌}
+use Rattle.std.specs.Prelude.{Bool, true, false, ℕ, Option, None, Some, Result, Ok, Err}
 use Rattle.sizes.specs.Refusals.{refusal_number}
-use Rattle.sizes.specs.declared.refusal.Refusal.TheVariants as Because
+use Rattle.sizes.specs.declared.refusal.Refusal.{Refusal}
 use Rattle.sizes.specs.Partition.{sbn, esi}
-use Rattle.sizes.specs.declared.toiallocator.Given.{Given}
-use Rattle.sizes.specs.declared.toiallocator.Given.TheVariants.{Number, Full}
-use Rattle.sizes.specs.declared.toiallocator.Known.{Known}
-use Rattle.sizes.specs.declared.toiallocator.Known.TheVariants.{Done, Unknown}
-use Rattle.lifecycle.specs.declared.fdt.Publication.{Publication}
-use Rattle.lifecycle.specs.declared.fdt.Publication.TheVariants as PublicationV
-use Rattle.lifecycle.specs.declared.fdt.Transfers.{Transfers}
-use Rattle.lifecycle.specs.declared.fdt.Transfers.TheVariants as TransfersV
-use Rattle.lifecycle.specs.declared.fdt.Admission.{Admission}
-use Rattle.lifecycle.specs.declared.fdt.Admission.TheVariants as AdmissionV
-use Rattle.sender.specs.declared.sender.RunAnswer.{RunAnswer}
-use Rattle.sender.specs.declared.sender.RunAnswer.TheVariants as RunV
+use Rattle.sender.specs.SenderCalls.{RunAnswer}
 use Rattle.host_structs.specs.declared.answers.Numbered.{Numbered}
 use Rattle.host_structs.specs.declared.answers.Counted.{Counted}
 use Rattle.host_structs.specs.declared.answers.Sent.{Sent}
@@ -26,28 +14,19 @@ toi_told n = record { refused = 0; toi = n }
 abbrev pub toi_refused : ℕ → Numbered
 toi_refused n = record { refused = n; toi = 0 }
 
-abbrev pub given_told : Given → Numbered
-given_told (Number n) = toi_told n
-given_told Full = toi_refused (refusal_number Because.Full)
+-- of a call that gives a number: a reservation, an add
+abbrev pub numbered_told : Result ℕ Refusal → Numbered
+numbered_told (Ok t) = toi_told t
+numbered_told (Err why) = toi_refused (refusal_number why)
 
-abbrev pub known_told : Known → ℕ
-known_told Done = 0
-known_told Unknown = refusal_number Because.NotLoose
+-- of a call that is done or refused: a release, a publish, a set-up, a record that is written
+abbrev pub refusal_told : {A : Type 0} → Result A Refusal → ℕ
+refusal_told (Ok a) = 0
+refusal_told (Err why) = refusal_number why
 
-abbrev pub add_told : Admission → Numbered
-add_told (AdmissionV.Toi t) = toi_told t
-add_told (AdmissionV.Refused why) = toi_refused (refusal_number why)
-
-abbrev pub publication_told : Publication → ℕ
-publication_told PublicationV.Done = 0
-publication_told (PublicationV.Refused why) = refusal_number why
-
-abbrev pub transfers_told : Transfers → Counted
-transfers_told (TransfersV.Total n) = record { listed = true; total = n }
-transfers_told TransfersV.NotListed = record { listed = false; total = 0 }
-
-unfoldable pub open_told : Bool → ℕ
-open_told ok = when ok then 0 else refusal_number Because.SetUp
+abbrev pub transfers_told : Option ℕ → Counted
+transfers_told (Some n) = record { listed = true; total = n }
+transfers_told None = record { listed = false; total = 0 }
 
 -- a run without a packet: zeros stand for it
 abbrev pub not_sent : ℕ → Bool → Sent
@@ -64,6 +43,6 @@ not_sent n taken = record {
 }
 
 abbrev pub run_told : Bool → RunAnswer → Sent
-run_told taken (RunV.Packet p) = record { refused = 0; taken = taken; sent = true; packet = p }
-run_told taken RunV.Nothing = not_sent 0 taken
-run_told taken (RunV.Refused why) = not_sent (refusal_number why) taken
+run_told taken (Ok (Some p)) = record { refused = 0; taken = taken; sent = true; packet = p }
+run_told taken (Ok None) = not_sent 0 taken
+run_told taken (Err why) = not_sent (refusal_number why) taken

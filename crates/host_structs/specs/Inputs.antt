@@ -1,5 +1,5 @@
 -- What the host names by numbers and plain structs.
-use Rattle.std.specs.Prelude.{Bool, ℕ}
+use Rattle.std.specs.Prelude.{Bool, ℕ, Option, None, Some}
 use Rattle.sizes.specs.Words.{when◌then◌else◌}
 use Rattle.sizes.specs.declared.partition.Sizes.{Sizes}
 use Rattle.lifecycle.specs.declared.filedesc.Plan.{Plan}
@@ -7,25 +7,22 @@ use Rattle.lifecycle.specs.declared.filedesc.Carousel.{Carousel}
 use Rattle.lifecycle.specs.declared.filedesc.Carousel.TheVariants as CarouselV
 use Rattle.lifecycle.specs.declared.filedesc.Target.{Target}
 use Rattle.lifecycle.specs.declared.filedesc.Target.TheVariants as TargetV
-use Rattle.lifecycle.specs.declared.fdt.Own.{Own}
-use Rattle.lifecycle.specs.declared.fdt.Own.TheVariants as OwnV
-use Rattle.lifecycle.specs.declared.fdt.Named.{Named}
-use Rattle.lifecycle.specs.declared.fdt.Named.TheVariants as NamedV
 use Rattle.sender.specs.declared.sender.Object.{Object}
-use Rattle.sender.specs.declared.setup.FdtCarousel.{FdtCarousel}
-use Rattle.sender.specs.declared.setup.FdtCarousel.TheVariants as FdtCarouselV
 use Rattle.sender.specs.declared.setup.Setup.{Setup}
 use Rattle.host_structs.specs.declared.inputs.PlainObject.{PlainObject}
 use Rattle.host_structs.specs.declared.inputs.PlainSetup.{PlainSetup}
 
-unfoldable pub carousel_in : Plan → Carousel
-carousel_in x = when x.repeats then (when x.from_start then CarouselV.Interval x.interval else CarouselV.Delay x.interval) else CarouselV.Never
+unfoldable pub fdt_carousel_in : Bool → ℕ → Carousel
+fdt_carousel_in from_start interval = when from_start then CarouselV.Interval interval else CarouselV.Delay interval
+
+unfoldable pub carousel_in : Plan → Option Carousel
+carousel_in x = when x.repeats then Some (fdt_carousel_in x.from_start x.interval) else None
 
 unfoldable pub target_in : Plan → Target
 target_in x = when x.paced then (when x.by_time then TargetV.By x.target else TargetV.Within x.target) else TargetV.AtOnce
 
-unfoldable pub own_in : Bool → Sizes → Own
-own_in own z = when own then OwnV.Sizes z else OwnV.SetUp
+unfoldable pub own_in : Bool → Sizes → Option Sizes
+own_in own z = when own then Some z else None
 
 abbrev pub object_in : PlainObject → Object
 object_in o = record {
@@ -39,11 +36,8 @@ object_in o = record {
   stop_at_once = o.plan.stop_at_once;
 }
 
-unfoldable pub named_in : PlainObject → Named
-named_in o = when o.named then NamedV.Toi o.toi else NamedV.Anew
-
-unfoldable pub fdt_carousel_in : Bool → ℕ → FdtCarousel
-fdt_carousel_in from_start interval = when from_start then FdtCarouselV.Interval interval else FdtCarouselV.Delay interval
+unfoldable pub named_in : PlainObject → Option ℕ
+named_in o = when o.named then Some o.toi else None
 
 abbrev pub setup_in : PlainSetup → Setup
 setup_in z = record {

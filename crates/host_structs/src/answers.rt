@@ -1,14 +1,13 @@
 // What the host is told: numbers and plain structs. A refusal has its number of the table; 0 is none.
-ghost use Rattle.std.specs.Prelude.{◌≡◌};
-ghost use Rattle.host_structs.specs.Answers.{given_told, known_told, add_told, publication_told, transfers_told, not_sent, run_told, open_told};
+ghost use Rattle.std.specs.Prelude.{◌≡◌, false};
+ghost use Rattle.host_structs.specs.Answers.{numbered_told, refusal_told, transfers_told, not_sent, run_told};
 
-use lifecycle::fdt::{Admission, Publication, Transfers};
 use lifecycle::parts::Part;
 use sender::blockencoder::Symbol;
+use sender::fdtsession::Drafted;
 use sender::sender::{Packet, RunAnswer};
 use sizes::numbers::{Esi, Sbn};
-use sizes::refusal::{Refusal, number_of};
-use sizes::toiallocator::{Given, Known};
+use sizes::refusal::Refusal;
 
 // An object's number, or the refusal.
 #[repr(C)]
@@ -36,67 +35,40 @@ pub struct Sent {
     pub packet: Packet,
 }
 
-pub fn given_told(a: Given) -> Numbered
-    ensures { result ≡ given_told a }
-{
-    match a {
-        Given::Number(toi) => Numbered { refused: 0, toi },
-        Given::Full => Numbered {
-            refused: number_of(Refusal::Full),
-            toi: 0,
-        },
+// The answer of a call that gives a number.
+impl From<Result<u64, Refusal>> for Numbered {
+    ghost from_gives = { λ a r. r ≡ numbered_told a };
+
+    fn from(a: Result<u64, Refusal>) -> Numbered {
+        match a {
+            Ok(toi) => Numbered { refused: 0, toi },
+            Err(why) => Numbered {
+                refused: u32::from(why),
+                toi: 0,
+            },
+        }
     }
 }
 
-pub fn known_told(a: Known) -> u32
-    ensures { result ≡ known_told a }
+// The answer of a call that is done or refused.
+pub fn refusal_told(a: Result<(), Refusal>) -> u32
+    ensures { result ≡ refusal_told a }
 {
     match a {
-        Known::Done => 0,
-        Known::Unknown => number_of(Refusal::NotLoose),
+        Ok(()) => 0,
+        Err(why) => u32::from(why),
     }
 }
 
-pub fn add_told(a: Admission) -> Numbered
-    ensures { result ≡ add_told a }
-{
-    match a {
-        Admission::Toi(toi) => Numbered { refused: 0, toi },
-        Admission::Refused(why) => Numbered {
-            refused: number_of(why),
-            toi: 0,
-        },
-    }
-}
+impl From<Option<u64>> for Counted {
+    ghost from_gives = { λ a r. r ≡ transfers_told a };
 
-pub fn publication_told(a: Publication) -> u32
-    ensures { result ≡ publication_told a }
-{
-    match a {
-        Publication::Done => 0,
-        Publication::Refused(why) => number_of(why),
+    fn from(a: Option<u64>) -> Counted {
+        Counted {
+            listed: a.is_some(),
+            total: a.unwrap_or(0),
+        }
     }
-}
-
-pub fn transfers_told(a: Transfers) -> Counted
-    ensures { result ≡ transfers_told a }
-{
-    match a {
-        Transfers::Total(total) => Counted {
-            listed: true,
-            total,
-        },
-        Transfers::NotListed => Counted {
-            listed: false,
-            total: 0,
-        },
-    }
-}
-
-pub fn open_told(ok: bool) -> u32
-    ensures { result ≡ open_told ok }
-{
-    if ok { 0 } else { number_of(Refusal::SetUp) }
 }
 
 // A run without a packet.
@@ -123,17 +95,33 @@ fn not_sent(refused: u32, taken: bool) -> Sent
     }
 }
 
-pub fn run_told(taken: bool, a: RunAnswer) -> Sent
-    ensures { result ≡ run_told taken a }
-{
-    match a {
-        RunAnswer::Packet(packet) => Sent {
-            refused: 0,
-            taken,
-            sent: true,
-            packet,
-        },
-        RunAnswer::Nothing => not_sent(0, taken),
-        RunAnswer::Refused(why) => not_sent(number_of(why), taken),
+// A run of the FDT session.
+impl From<Drafted<RunAnswer>> for Sent {
+    ghost from_gives = { λ a r. r ≡ run_told a.taken a.answer };
+
+    fn from(a: Drafted<RunAnswer>) -> Sent {
+        let taken = a.taken;
+        match a.answer {
+            Ok(Some(packet)) => Sent {
+                refused: 0,
+                taken,
+                sent: true,
+                packet,
+            },
+            Ok(None) => not_sent(0, taken),
+            Err(why) => not_sent(u32::from(why), taken),
+        }
+    }
+}
+
+// A run of a file session, which takes no draft.
+impl From<RunAnswer> for Sent {
+    ghost from_gives = { λ a r. r ≡ run_told false a };
+
+    fn from(answer: RunAnswer) -> Sent {
+        Sent::from(Drafted {
+            taken: false,
+            answer,
+        })
     }
 }

@@ -2,11 +2,10 @@
 ghost use Rattle.std.specs.Prelude.{◌≡◌};
 ghost use Rattle.host_structs.specs.Inputs.{carousel_in, target_in, own_in, object_in, named_in, fdt_carousel_in, setup_in};
 
-use lifecycle::fdt::{Named, Own};
 use lifecycle::filedesc::{Carousel, Plan, Target, Time};
 use lifecycle::parts::Part;
 use sender::sender::Object;
-use sender::setup::{FdtCarousel, Setup};
+use sender::setup::Setup;
 use sizes::limits::MOST_SESSIONS;
 use sizes::partition::Sizes;
 
@@ -42,95 +41,89 @@ pub struct PlainSetup {
     pub fdt_store: u64,
 }
 
-fn carousel_in(x: Plan) -> Carousel
+// How an object is sent again, if it is.
+#[tactic(auto, unfolding(crate::specs::Inputs::carousel_in))]
+fn carousel_in(x: Plan) -> Option<Carousel>
     ensures { result ≡ carousel_in x }
 {
-    if x.repeats {
-        if x.from_start {
-            return Carousel::Interval(x.interval);
-        }
-        return Carousel::Delay(x.interval);
-    }
-    Carousel::Never
+    x.repeats
+        .then_some(fdt_carousel_in(x.from_start, x.interval))
 }
 
+#[tactic(auto, unfolding(crate::specs::Inputs::target_in))]
 fn target_in(x: Plan) -> Target
     ensures { result ≡ target_in x }
 {
-    if x.paced {
-        if x.by_time {
-            return Target::By(x.target);
-        }
-        return Target::Within(x.target);
+    match (x.paced, x.by_time) {
+        (false, _) => Target::AtOnce,
+        (true, true) => Target::By(x.target),
+        (true, false) => Target::Within(x.target),
     }
-    Target::AtOnce
 }
 
-fn own_in(own: bool, z: Sizes) -> Own
+#[tactic(auto, unfolding(crate::specs::Inputs::own_in))]
+fn own_in(own: bool, z: Sizes) -> Option<Sizes>
     ensures { result ≡ own_in own z }
 {
-    if own {
-        return Own::Sizes(z);
-    }
-    Own::SetUp
+    own.then_some(z)
 }
 
 // The object that is named.
-pub fn object_in(o: PlainObject) -> Object
-    ensures { result ≡ object_in o }
-{
-    let x = o.plan;
-    let z = o.sizes;
-    let part = o.part;
-    let start = o.start;
-    Object {
-        priority: o.priority,
-        part,
-        own: own_in(o.own, z),
-        most: x.most,
-        carousel: carousel_in(x),
-        target: target_in(x),
-        start,
-        stop_at_once: x.stop_at_once,
+impl From<PlainObject> for Object {
+    ghost from_gives = { λ o r. r ≡ object_in o };
+
+    fn from(o: PlainObject) -> Object {
+        let x = o.plan;
+        Object {
+            priority: o.priority,
+            part: o.part,
+            own: own_in(o.own, o.sizes),
+            most: x.most,
+            carousel: carousel_in(x),
+            target: target_in(x),
+            start: o.start,
+            stop_at_once: x.stop_at_once,
+        }
     }
 }
 
 // The reservation that is named, if any.
-pub fn named_in(o: PlainObject) -> Named
+#[tactic(auto, unfolding(crate::specs::Inputs::named_in))]
+pub fn named_in(o: PlainObject) -> Option<u64>
     ensures { result ≡ named_in o }
 {
-    if o.named {
-        return Named::Toi(o.toi);
-    }
-    Named::Anew
+    o.named.then_some(o.toi)
 }
 
-fn fdt_carousel_in(from_start: bool, interval: u64) -> FdtCarousel
+#[tactic(auto, unfolding(crate::specs::Inputs::fdt_carousel_in))]
+fn fdt_carousel_in(from_start: bool, interval: u64) -> Carousel
     ensures { result ≡ fdt_carousel_in from_start interval }
 {
     if from_start {
-        return FdtCarousel::Interval(interval);
+        Carousel::Interval(interval)
+    } else {
+        Carousel::Delay(interval)
     }
-    FdtCarousel::Delay(interval)
 }
 
 // The set-up that is named.
-pub fn setup_in(z: PlainSetup) -> Setup
-    ensures { result ≡ setup_in z }
-{
-    let sizes = z.sizes;
-    let priorities = z.priorities;
-    Setup {
-        sizes,
-        window: z.window,
-        count: z.count,
-        priorities,
-        width: z.width,
-        first_toi: z.first_toi,
-        first_fdt_id: z.first_fdt_id,
-        validity: z.validity,
-        carousel: fdt_carousel_in(z.from_start, z.interval),
-        object_store: z.object_store,
-        fdt_store: z.fdt_store,
+impl From<PlainSetup> for Setup {
+    ghost from_gives = { λ z r. r ≡ setup_in z };
+
+    fn from(z: PlainSetup) -> Setup {
+        let priorities = z.priorities;
+        Setup {
+            sizes: z.sizes,
+            window: z.window,
+            count: z.count,
+            priorities,
+            width: z.width,
+            first_toi: z.first_toi,
+            first_fdt_id: z.first_fdt_id,
+            validity: z.validity,
+            carousel: fdt_carousel_in(z.from_start, z.interval),
+            object_store: z.object_store,
+            fdt_store: z.fdt_store,
+        }
     }
 }

@@ -1,34 +1,24 @@
-// An allocator that the host owns and lends: each call is the by-value one, on what stands behind the reference.
+// An allocator that the host owns and lends: each call changes what stands behind the reference, and answers.
 #![tactic(auto)]
 
 ghost use Rattle.std.specs.Prelude.{true};
 ghost use Rattle.sizes.specs.Allocator.{ValidAllocator, dropped_of, Gives, Becomes};
 
-use sizes::toiallocator::{Allocated, Given, Known, ToiAllocator};
+use sizes::refusal::Refusal;
+use sizes::toiallocator::ToiAllocator;
 
-fn reserved(a: ToiAllocator) -> Allocated
-    requires { ValidAllocator a }
-    ensures { Gives true a result }
+// A loose reservation of the stored next number.
+pub fn reserve(a: &mut ToiAllocator) -> Result<u64, Refusal>
+    requires { ValidAllocator a.old }
+    ensures { Gives true a.old (record { answer = result; allocator = a.new }) }
 {
     a.allocate(true)
 }
 
-// A loose reservation of the stored next number.
-pub fn reserve(a: &mut ToiAllocator) -> Given
-    requires { ValidAllocator a.old }
-    ensures { Gives true a.old (record { answer = result; allocator = a.new }) }
-{
-    let g = reserved(*a);
-    *a = g.allocator;
-    g.answer
-}
-
 // A loose reservation is let go.
-pub fn release(a: &mut ToiAllocator, toi: u64) -> Known
+pub fn release(a: &mut ToiAllocator, toi: u64) -> Result<(), Refusal>
     requires { ValidAllocator a.old }
     ensures { Becomes (dropped_of true toi a.old) (record { answer = result; allocator = a.new }) }
 {
-    let c = (*a).release(toi);
-    *a = c.allocator;
-    c.answer
+    a.release(toi)
 }

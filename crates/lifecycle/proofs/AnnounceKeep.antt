@@ -1,7 +1,7 @@
 -- What the calls of the FDT side keep: the objects stay, and what holds of every FDT's part holds after each call.
 use mathlib.Core.Path.{◌≡◌, refl, sym, ◌∙◌, ap, subst}
 use mathlib.Core.Bool.{Bool, true, false, ◌&&◌, false≢true}
-use mathlib.Core.Option.{some}
+use Rattle.std.specs.Prelude.{Option, None, Some}
 use mathlib.Core.List.{List, map}
 use Prim.Native.Nat.{ℕ, suc, ◌+◌, ◌≤◌, ◌<◌}
 use native.Mathlib.Omega.{arith}
@@ -18,16 +18,13 @@ use Rattle.lifecycle.specs.Lifecycle.{may_start}
 use Rattle.lifecycle.specs.FileDesc.{plan_of, life_of}
 use Rattle.lifecycle.specs.Slots.{published_slot}
 use Rattle.lifecycle.specs.Announce as Ann
-use Rattle.lifecycle.specs.Announce.{draft_given, no_instance, ValidAnnouncer, fdt_plan_of, needs_new_of, first_instance, queued_of, front_of, started_instance, done_instance, holding, start_of, republished_of, transferring_of, next_of, shares_fdt_of, bad_fdt_of}
+use Rattle.lifecycle.specs.Announce.{NextInstance, no_instance, ValidAnnouncer, fdt_plan_of, needs_new_of, first_instance, queued_of, front_of, started_instance, done_instance, holding, start_of, republished_of, transferring_of, next_of, shares_fdt_of, bad_fdt_of}
 use Rattle.lifecycle.specs.FdtCalls.{with_published, with_announcer, next_fdt_of, fdt_done_of}
 use Rattle.lifecycle.specs.declared.parts.Part.{Part}
 use Rattle.lifecycle.specs.declared.filedesc.Plan.{Plan}
 use Rattle.lifecycle.specs.declared.slots.Slot.{Slot}
 use Rattle.lifecycle.specs.declared.announce.Instance.{Instance}
 use Rattle.lifecycle.specs.declared.announce.Announcer.{Announcer}
-use Rattle.lifecycle.specs.declared.announce.NextInstance.{NextInstance}
-use Rattle.lifecycle.specs.declared.announce.Draft.{Draft}
-use Rattle.lifecycle.specs.declared.announce.Draft.TheVariants.{Given, Missing}
 use Rattle.lifecycle.specs.declared.fdt.Fdt.{Fdt}
 use Rattle.lifecycle.proofs.PartLaws.{lies_in}
 use Rattle.lifecycle.proofs.AnnounceLaws.{needed_empty}
@@ -59,7 +56,7 @@ abbrev pub marked_slots : Bool → List Slot → List Slot
 marked_slots taken t = when taken then map published_slot t else t
 
 -- the next FDT
-module _ (now : ℕ) (draft : Draft) (f : Fdt) where
+module _ (now : ℕ) (draft : Option Part) (f : Fdt) where
   -- the FDT side's own
   abbrev pub side_next : NextInstance
   side_next = next_of (fdt_plan_of f.settings.from_start f.settings.interval) f.settings.validity now draft f.announcer
@@ -91,11 +88,11 @@ module _ (now : ℕ) (draft : Draft) (f : Fdt) where
       by false = refl
 
 -- without a draft none is taken
-pub next_fdt_untaken : (now : ℕ) (f : Fdt) → (next_fdt_of now Missing f).taken ≡ false
+pub next_fdt_untaken : (now : ℕ) (f : Fdt) → (next_fdt_of now None f).taken ≡ false
 unfolding next_fdt_of next_of start_of
 next_fdt_untaken now f =
     let r = fdt_plan_of f.settings.from_start f.settings.interval in
-    let b = front_of (republished_of f.settings.validity now Missing f.announcer) in
+    let b = front_of (republished_of f.settings.validity now None f.announcer) in
     if_on (λ (n : NextInstance). n.taken ≡ false) (transferring_of f.announcer) (λ e. refl)
     (λ e. if_on (λ (n : NextInstance). n.taken ≡ false) (b.has_current && may_start (plan_of r) now (life_of b.current.life))
     (λ c. neither (needs_new_of f.settings.validity now f.announcer)) (λ c. neither (needs_new_of f.settings.validity now f.announcer)))
@@ -161,11 +158,11 @@ module _ (P : Part → Type 0) (a : Announcer) (p : EachFdt P a) where
   start_each r now taken = if_on (λ (n : NextInstance). EachFdt P n.announcer) (a.has_current && may_start (plan_of r) now (life_of a.current.life))
       (λ e. holding_each (started_instance r now a.current) refl) (λ e. p)
 
-  republished_each : ValidAnnouncer a → (validity now : ℕ) (draft : Draft) → ((c : Part) → draft_given draft ≡ some c → P c) → EachFdt P (republished_of validity now draft a)
+  republished_each : ValidAnnouncer a → (validity now : ℕ) (draft : Option Part) → ((c : Part) → draft ≡ Some c → P c) → EachFdt P (republished_of validity now draft a)
   unfolding republished_of
-  republished_each v validity now (Given c) g = if_on (EachFdt P) (needs_new_of validity now a)
+  republished_each v validity now (Some c) g = if_on (EachFdt P) (needs_new_of validity now a)
       (λ e. queued_each now c v (let n = needed_empty validity now a e in omega arith) (g c refl)) (λ e. p)
-  republished_each v validity now Missing g = if_on (EachFdt P) (needs_new_of validity now a) (λ e. p) (λ e. p)
+  republished_each v validity now None g = if_on (EachFdt P) (needs_new_of validity now a) (λ e. p) (λ e. p)
 
   done_each : (now : ℕ) → EachFdt P (Ann.current_done now a)
   unfolding Ann.current_done
@@ -173,12 +170,12 @@ module _ (P : Part → Type 0) (a : Announcer) (p : EachFdt P a) where
 
 module _ (P : Part → Type 0) (now : ℕ) (f : Fdt) (p : EachFdt P f.announcer) where
   -- a draft may be published
-  pub next_fdt_each : (draft : Draft) → ValidAnnouncer f.announcer → ((c : Part) → draft_given draft ≡ some c → P c) → EachFdt P (next_fdt_of now draft f).fdt.announcer
+  pub next_fdt_each : (draft : Option Part) → ValidAnnouncer f.announcer → ((c : Part) → draft ≡ Some c → P c) → EachFdt P (next_fdt_of now draft f).fdt.announcer
   unfolding next_of
   next_fdt_each draft v g = subst (EachFdt P) (sym (next_fdt_side now draft f)) (if_on (λ (n : NextInstance). EachFdt P n.announcer) (transferring_of f.announcer) (λ e. p) (λ e.
       let b = republished_of f.settings.validity now draft f.announcer in
       start_each P (front_of b) (front_each P b (republished_each P f.announcer p v f.settings.validity now draft g))
-      (fdt_plan_of f.settings.from_start f.settings.interval) now (needs_new_of f.settings.validity now f.announcer && given (draft_given draft))))
+      (fdt_plan_of f.settings.from_start f.settings.interval) now (needs_new_of f.settings.validity now f.announcer && given draft)))
 
   pub fdt_done_each : EachFdt P (fdt_done_of now f).announcer
   fdt_done_each = subst (EachFdt P) (sym (fdt_done_side now f)) (done_each P f.announcer p now)
@@ -192,11 +189,11 @@ unfolding start_of
 start_current r now a taken = if_on Starts (a.has_current && may_start (plan_of r) now (life_of a.current.life))
     (λ e q. and_left a.has_current (may_start (plan_of r) now (life_of a.current.life)) e) (λ e q. absurd (false≢true q))
 
-pub next_fdt_current : (now : ℕ) (draft : Draft) (f : Fdt) → (next_fdt_of now draft f).starts ≡ true → (next_fdt_of now draft f).fdt.announcer.has_current ≡ true
+pub next_fdt_current : (now : ℕ) (draft : Option Part) (f : Fdt) → (next_fdt_of now draft f).starts ≡ true → (next_fdt_of now draft f).fdt.announcer.has_current ≡ true
 unfolding next_of
 next_fdt_current now draft f e = ap (λ a. a.has_current) (next_fdt_side now draft f) ∙ if_on Starts (transferring_of f.announcer) (λ t q. absurd (false≢true q))
     (λ t. start_current (fdt_plan_of f.settings.from_start f.settings.interval) now (front_of (republished_of f.settings.validity now draft f.announcer))
-    (needs_new_of f.settings.validity now f.announcer && given (draft_given draft)))
+    (needs_new_of f.settings.validity now f.announcer && given draft))
     (sym (next_fdt_starts now draft f) ∙ e)
 
 -- a part that is not bad lies in the FDT store

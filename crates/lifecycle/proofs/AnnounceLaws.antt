@@ -1,7 +1,7 @@
 -- Laws of the FDT side: what each function makes of it in the definition's words, and that the FDT side stays valid.
 use mathlib.Core.Path.{◌≡◌, refl, sym, ◌∙◌, ap, subst}
 use mathlib.Core.Bool.{Bool, true, false, not, ◌&&◌, ◌||◌, true≢false}
-use mathlib.Core.Option.{none, some}
+use Rattle.std.specs.Prelude.{Option, None, Some}
 use mathlib.Core.List.{List, [], ◌∷◌, ◌++◌, map}
 use Prim.Native.Nat.{ℕ, zero, suc, ◌+◌, ◌-◌, ◌≤◌, ◌<◌}
 use native.Mathlib.Nat.{mod-lt}
@@ -23,14 +23,11 @@ use Rattle.lifecycle.specs.Setup.{Setup}
 use Rattle.lifecycle.specs.FileDesc.{time_of, plan_of, life_of, started_life, done_life}
 use Rattle.lifecycle.specs.Fdt as Def
 use Rattle.lifecycle.specs.Fdt.{FdtState, fdt_plan, fdt_parts, bad_fdt_part, queued, seconds, runs_out, needs_new, takes_draft, republished, front_taken, with_current, start_current, next_fdt, fdt_done}
-use Rattle.lifecycle.specs.Announce.{instance_of, waiting_of, state_of, draft_given, next_told, no_instance, ValidAnnouncer, fdt_plan_of, needs_new_of, first_instance, queued_of, front_of, started_instance, done_instance, holding, start_of, republished_of, transferring_of, next_of, current_done, waits_of, held_of, shares_fdt_of, bad_fdt_of, new_announcer}
+use Rattle.lifecycle.specs.Announce.{NextInstance, instance_of, waiting_of, state_of, next_told, no_instance, ValidAnnouncer, fdt_plan_of, needs_new_of, first_instance, queued_of, front_of, started_instance, done_instance, holding, start_of, republished_of, transferring_of, next_of, current_done, waits_of, held_of, shares_fdt_of, bad_fdt_of, new_announcer}
 use Rattle.lifecycle.specs.declared.parts.Part.{Part}
 use Rattle.lifecycle.specs.declared.filedesc.Plan.{Plan}
 use Rattle.lifecycle.specs.declared.announce.Instance.{Instance}
 use Rattle.lifecycle.specs.declared.announce.Announcer.{Announcer}
-use Rattle.lifecycle.specs.declared.announce.NextInstance.{NextInstance}
-use Rattle.lifecycle.specs.declared.announce.Draft.{Draft}
-use Rattle.lifecycle.specs.declared.announce.Draft.TheVariants.{Given, Missing}
 
 -- ---- the plan and the validity
 
@@ -61,7 +58,7 @@ needed_empty validity now a e =
 
 -- ---- words
 
-given_if : {A : Type 0} (b : Bool) (x : A) → given (when b then some x else none) ≡ b
+given_if : {A : Type 0} (b : Bool) (x : A) → given (when b then Some x else None) ≡ b
 given_if true x = refl
 given_if false x = refl
 
@@ -152,13 +149,13 @@ module _ (a : Announcer) (v : ValidAnnouncer a) where
       go (pass e) = rw e (valid_holding (started_instance r now a.current) (and_left a.has_current (may_start (plan_of r) now (life_of a.current.life)) e))
       go (fail e) = rw e v
 
-  pub valid_republished : (validity now : ℕ) (draft : Draft) → ValidAnnouncer (republished_of validity now draft a)
+  pub valid_republished : (validity now : ℕ) (draft : Option Part) → ValidAnnouncer (republished_of validity now draft a)
   unfolding republished_of
   valid_republished validity now draft = go draft (tested (needs_new_of validity now a))
     where
-      go : (d : Draft) → Tested (needs_new_of validity now a) → ValidAnnouncer (republished_of validity now d a)
-      go (Given c) (pass e) = rw e (valid_queued now c (let z = needed_empty validity now a e in omega arith))
-      go Missing (pass e) = rw e v
+      go : (d : Option Part) → Tested (needs_new_of validity now a) → ValidAnnouncer (republished_of validity now d a)
+      go (Some c) (pass e) = rw e (valid_queued now c (let z = needed_empty validity now a e in omega arith))
+      go None (pass e) = rw e v
       go d (fail e) = rw e v
 
   pub valid_done : (now : ℕ) → ValidAnnouncer (current_done now a)
@@ -169,13 +166,13 @@ module _ (a : Announcer) (v : ValidAnnouncer a) where
       go (pass e) = subst (λ b. ValidAnnouncer (when b then holding a (done_instance now a.current) else a)) (sym e) (valid_holding (done_instance now a.current) e)
       go (fail e) = subst (λ b. ValidAnnouncer (when b then holding a (done_instance now a.current) else a)) (sym e) v
 
-pub valid_next : (a : Announcer) → ValidAnnouncer a → (r : Plan) (validity now : ℕ) (draft : Draft) → ValidAnnouncer (next_of r validity now draft a).announcer
+pub valid_next : (a : Announcer) → ValidAnnouncer a → (r : Plan) (validity now : ℕ) (draft : Option Part) → ValidAnnouncer (next_of r validity now draft a).announcer
 unfolding next_of
 valid_next a v r validity now draft = go (tested (transferring_of a))
   where
     go : Tested (transferring_of a) → ValidAnnouncer (next_of r validity now draft a).announcer
     go (pass e) = rw e v
-    go (fail e) = rw e (valid_start (front_of (republished_of validity now draft a)) (valid_front (republished_of validity now draft a) (valid_republished a v validity now draft)) r now (needs_new_of validity now a && given (draft_given draft)))
+    go (fail e) = rw e (valid_start (front_of (republished_of validity now draft a)) (valid_front (republished_of validity now draft a) (valid_republished a v validity now draft)) r now (needs_new_of validity now a && given draft))
 
 -- ---- in the definition's words
 
@@ -190,42 +187,42 @@ ended now i = record { id = i.id; part = i.part; life = finished now i.life; tra
 module _ (f : FdtState) where
   front_none : f.waiting ≡ [] → front_taken f ≡ f
   unfolding front_taken
-  front_none e = ap (λ w. elim w [ [] ↦ f | i ∷ rest ↦ record { next_id = f.next_id; last = f.last; waiting = rest; current = some i } ]) e
+  front_none e = ap (λ w. elim w [ [] ↦ f | i ∷ rest ↦ record { next_id = f.next_id; last = f.last; waiting = rest; current = Some i } ]) e
 
   front_some : (i : Def.Instance) (rest : List Def.Instance) → f.waiting ≡ i ∷ rest
-      → front_taken f ≡ record { next_id = f.next_id; last = f.last; waiting = rest; current = some i }
+      → front_taken f ≡ record { next_id = f.next_id; last = f.last; waiting = rest; current = Some i }
   unfolding front_taken
-  front_some i rest e = ap (λ w. elim w [ [] ↦ f | i ∷ rest ↦ record { next_id = f.next_id; last = f.last; waiting = rest; current = some i } ]) e
+  front_some i rest e = ap (λ w. elim w [ [] ↦ f | i ∷ rest ↦ record { next_id = f.next_id; last = f.last; waiting = rest; current = Some i } ]) e
 
-  done_none : (now : ℕ) → f.current ≡ none → fdt_done now f ≡ f
+  done_none : (now : ℕ) → f.current ≡ None → fdt_done now f ≡ f
   unfolding fdt_done
   done_none now e = rw e
 
-  done_some : (now : ℕ) (i : Def.Instance) → f.current ≡ some i → fdt_done now f ≡ with_current f (ended now i)
+  done_some : (now : ℕ) (i : Def.Instance) → f.current ≡ Some i → fdt_done now f ≡ with_current f (ended now i)
   unfolding fdt_done
   done_some now i e = rw e
 
   module _ (s : Setup) (now : ℕ) (taken : Bool) where
-    start_none : f.current ≡ none → start_current s now taken f ≡ record { taken = taken; state = f; starts = none }
+    start_none : f.current ≡ None → start_current s now taken f ≡ record { taken = taken; state = f; starts = None }
     unfolding start_current
     start_none e = rw e
 
-    start_idle : (i : Def.Instance) → f.current ≡ some i → may_start (fdt_plan s) now i.life ≡ false → start_current s now taken f ≡ record { taken = taken; state = f; starts = none }
+    start_idle : (i : Def.Instance) → f.current ≡ Some i → may_start (fdt_plan s) now i.life ≡ false → start_current s now taken f ≡ record { taken = taken; state = f; starts = None }
     unfolding start_current
     start_idle i e q = rw (e, q)
 
-    start_on : (i : Def.Instance) → f.current ≡ some i → may_start (fdt_plan s) now i.life ≡ true
-        → start_current s now taken f ≡ record { taken = taken; state = with_current f (begun s now i); starts = some (begun s now i) }
+    start_on : (i : Def.Instance) → f.current ≡ Some i → may_start (fdt_plan s) now i.life ≡ true
+        → start_current s now taken f ≡ record { taken = taken; state = with_current f (begun s now i); starts = Some (begun s now i) }
     unfolding start_current
     start_on i e q = rw (e, q)
 
 -- the state of the code, case by case
 module _ (a : Announcer) where
-  current_none : a.has_current ≡ false → (state_of a).current ≡ none
+  current_none : a.has_current ≡ false → (state_of a).current ≡ None
   unfolding state_of
   current_none e = rw e
 
-  current_some : a.has_current ≡ true → (state_of a).current ≡ some (instance_of a.current)
+  current_some : a.has_current ≡ true → (state_of a).current ≡ Some (instance_of a.current)
   unfolding state_of
   current_some e = rw e
 
@@ -277,13 +274,13 @@ starts_said s r now taken a p = go (tested a.has_current) (tested (may_start (pl
     pick : Bool → NextInstance
     pick b = when b then record { taken = taken; starts = true; announcer = holding a (started_instance r now a.current) } else record { taken = taken; starts = false; announcer = a }
 
-    stays : next_told (pick false) ≡ record { taken = taken; state = state_of a; starts = none }
+    stays : next_told (pick false) ≡ record { taken = taken; state = state_of a; starts = None }
     stays = refl
 
-    starts : a.has_current ≡ true → next_told (pick true) ≡ record { taken = taken; state = with_current (state_of a) (begun s now (instance_of a.current)); starts = some (begun s now (instance_of a.current)) }
+    starts : a.has_current ≡ true → next_told (pick true) ≡ record { taken = taken; state = with_current (state_of a) (begun s now (instance_of a.current)); starts = Some (begun s now (instance_of a.current)) }
     starts e =
-        ap (λ x. record { taken = taken; state = x; starts = some (instance_of (started_instance r now a.current)) }) (state_holding a (started_instance r now a.current) e)
-        ∙ ap (λ i. record { taken = taken; state = with_current (state_of a) i; starts = some i }) (instance_started s r now a.current p)
+        ap (λ x. record { taken = taken; state = x; starts = Some (instance_of (started_instance r now a.current)) }) (state_holding a (started_instance r now a.current) e)
+        ∙ ap (λ i. record { taken = taken; state = with_current (state_of a) i; starts = Some i }) (instance_started s r now a.current p)
 
     both : (x y : Bool) → a.has_current ≡ x → may ≡ y → next_told (start_of r now taken a) ≡ next_told (pick (x && y))
     both x y e q = ap (λ b. next_told (pick (b && may))) e ∙ ap (λ b. next_told (pick (x && b))) q
@@ -341,66 +338,66 @@ module _ (a : Announcer) (v : ValidAnnouncer a) where
           rw e (sym (front_some (state_of a) _ _ (ap (map instance_of) (split_front (omega (arith, n))))))
 
   -- republish
-  pub state_republished : (s : Setup) (validity now : ℕ) (draft : Draft) → s.validity ≡ validity
-      → state_of (republished_of validity now draft a) ≡ republished s now (draft_given draft) (state_of a)
+  pub state_republished : (s : Setup) (validity now : ℕ) (draft : Option Part) → s.validity ≡ validity
+      → state_of (republished_of validity now draft a) ≡ republished s now draft (state_of a)
   unfolding republished_of republished
   state_republished s validity now draft p = go draft (tested (needs_new_of validity now a))
     where
-      go : (d : Draft) → Tested (needs_new_of validity now a) → state_of (republished_of validity now d a) ≡ republished s now (draft_given d) (state_of a)
-      go (Given c) (pass e) = rw (← needs_said s validity now p, e) (state_queued now c (let z = needed_empty validity now a e in omega arith))
-      go Missing (pass e) = rw (← needs_said s validity now p, e)
+      go : (d : Option Part) → Tested (needs_new_of validity now a) → state_of (republished_of validity now d a) ≡ republished s now d (state_of a)
+      go (Some c) (pass e) = rw (← needs_said s validity now p, e) (state_queued now c (let z = needed_empty validity now a e in omega arith))
+      go None (pass e) = rw (← needs_said s validity now p, e)
       go d (fail e) = rw (← needs_said s validity now p, e)
 
-  pub takes_said : (s : Setup) (validity now : ℕ) (draft : Draft) → s.validity ≡ validity
-      → (needs_new_of validity now a && given (draft_given draft)) ≡ takes_draft s now (draft_given draft) (state_of a)
+  pub takes_said : (s : Setup) (validity now : ℕ) (draft : Option Part) → s.validity ≡ validity
+      → (needs_new_of validity now a && given draft) ≡ takes_draft s now draft (state_of a)
   unfolding takes_draft
   takes_said s validity now draft p = rw (needs_said s validity now p)
 
-said_still : (a : Announcer) → next_told (record { taken = false; starts = false; announcer = a }) ≡ record { taken = false; state = state_of a; starts = none }
+said_still : (a : Announcer) → next_told (record { taken = false; starts = false; announcer = a }) ≡ record { taken = false; state = state_of a; starts = None }
 unfolding next_told
 said_still a = refl
 
 -- the next FDT: taken, state and what starts are the definition's
-pub next_said : (a : Announcer) → ValidAnnouncer a → (s : Setup) (r : Plan) (validity now : ℕ) (draft : Draft) → s.validity ≡ validity → plan_of r ≡ fdt_plan s
-    → next_told (next_of r validity now draft a) ≡ next_fdt s now (draft_given draft) (state_of a)
+pub next_said : (a : Announcer) → ValidAnnouncer a → (s : Setup) (r : Plan) (validity now : ℕ) (draft : Option Part) → s.validity ≡ validity → plan_of r ≡ fdt_plan s
+    → next_told (next_of r validity now draft a) ≡ next_fdt s now draft (state_of a)
 unfolding next_of next_fdt
 next_said a v s r validity now draft e p = go (tested (transferring_of a))
   where
     b : Announcer
     b = republished_of validity now draft a
 
-    go : Tested (transferring_of a) → next_told (next_of r validity now draft a) ≡ next_fdt s now (draft_given draft) (state_of a)
+    go : Tested (transferring_of a) → next_told (next_of r validity now draft a) ≡ next_fdt s now draft (state_of a)
     go (pass q) = rw (← busy_said a, q) (said_still a)
     go (fail q) =
         rw (← busy_said a, q)
-        (starts_said s r now (needs_new_of validity now a && given (draft_given draft)) (front_of b) p
-        ∙ ap (λ f. start_current s now (needs_new_of validity now a && given (draft_given draft)) f) (state_front b (valid_republished a v validity now draft) ∙ ap front_taken (state_republished a v s validity now draft e))
-        ∙ ap (λ t. start_current s now t (front_taken (republished s now (draft_given draft) (state_of a)))) (takes_said a v s validity now draft e))
+        (starts_said s r now (needs_new_of validity now a && given draft) (front_of b) p
+        ∙ ap (λ f. start_current s now (needs_new_of validity now a && given draft) f) (state_front b (valid_republished a v validity now draft) ∙ ap front_taken (state_republished a v s validity now draft e))
+        ∙ ap (λ t. start_current s now t (front_taken (republished s now draft (state_of a)))) (takes_said a v s validity now draft e))
 
 -- the same, part by part
-module _ (a : Announcer) (v : ValidAnnouncer a) (s : Setup) (r : Plan) (validity now : ℕ) (draft : Draft) (e : s.validity ≡ validity) (p : plan_of r ≡ fdt_plan s) where
-  pub next_taken : (next_of r validity now draft a).taken ≡ (next_fdt s now (draft_given draft) (state_of a)).taken
+module _ (a : Announcer) (v : ValidAnnouncer a) (s : Setup) (r : Plan) (validity now : ℕ) (draft : Option Part) (e : s.validity ≡ validity) (p : plan_of r ≡ fdt_plan s) where
+  pub next_taken : (next_of r validity now draft a).taken ≡ (next_fdt s now draft (state_of a)).taken
   unfolding next_told
   next_taken = ap (λ (x : Def.Next). x.taken) (next_said a v s r validity now draft e p)
 
-  pub next_state : state_of (next_of r validity now draft a).announcer ≡ (next_fdt s now (draft_given draft) (state_of a)).state
+  pub next_state : state_of (next_of r validity now draft a).announcer ≡ (next_fdt s now draft (state_of a)).state
   unfolding next_told
   next_state = ap (λ (x : Def.Next). x.state) (next_said a v s r validity now draft e p)
 
   -- what starts is given exactly where the code says so, and is the new current one
-  pub next_starts : (when (next_of r validity now draft a).starts then some (instance_of (next_of r validity now draft a).announcer.current) else none)
-      ≡ (next_fdt s now (draft_given draft) (state_of a)).starts
+  pub next_starts : (when (next_of r validity now draft a).starts then Some (instance_of (next_of r validity now draft a).announcer.current) else None)
+      ≡ (next_fdt s now draft (state_of a)).starts
   unfolding next_told
   next_starts = ap (λ (x : Def.Next). x.starts) (next_said a v s r validity now draft e p)
 
 -- ---- parts that are held
 
 module _ (c : Part) where
-  parts_shared : (l : List Instance) (m : List Part) → any (shares c) (collect (λ (i : Def.Instance). some i.part) (map instance_of l) ++ m) ≡ (any (held_of c) l || any (shares c) m)
+  parts_shared : (l : List Instance) (m : List Part) → any (shares c) (collect (λ (i : Def.Instance). Some i.part) (map instance_of l) ++ m) ≡ (any (held_of c) l || any (shares c) m)
   parts_shared [] m = refl
   parts_shared (i ∷ l) m = ap (λ b. shares c i.part || b) (parts_shared l m) ∙ or_assoc (shares c i.part) (any (held_of c) l) (any (shares c) m)
 
-  last_shared : (b : Bool) (i : Instance) → any (shares c) (maybe [] (λ (i : Def.Instance). i.part ∷ []) (when b then some (instance_of i) else none)) ≡ (b && held_of c i)
+  last_shared : (b : Bool) (i : Instance) → any (shares c) (maybe [] (λ (i : Def.Instance). i.part ∷ []) (when b then Some (instance_of i) else None)) ≡ (b && held_of c i)
   last_shared false i = refl
   last_shared true i = or_false (shares c i.part)
 

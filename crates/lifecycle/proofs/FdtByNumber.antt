@@ -1,7 +1,7 @@
 -- The calls by number for the layer above: each finds a listed object by its number, and no other held object has that number.
 use mathlib.Core.Path.{◌≡◌, refl, sym, ◌∙◌, ap, subst}
 use mathlib.Core.Bool.{Bool, true, false, not, ◌&&◌, true≢false, false≢true}
-use mathlib.Core.Option.{Option, none, some}
+use Rattle.std.specs.Prelude.{Option, None, Some}
 use mathlib.Core.List.{List, [], ◌∷◌, ◌++◌}
 use Prim.Native.Nat.{ℕ, ◌≤◌}
 use native.Mathlib.Omega.{arith}
@@ -18,27 +18,26 @@ use Rattle.sizes.proofs.Collects.{at_inside}
 use Rattle.sizes.proofs.AllocatorViews.{freed_view}
 use Rattle.lifecycle.specs.FileDesc.{life_of, with_life, reset_life}
 use Rattle.lifecycle.specs.Slots.{no_slot, slot_at, is_listed_as}
-use Rattle.lifecycle.specs.FdtCalls.{file_at, waiting, files, sends, used, waits, ValidFdt, listed_place, transfers_of, unlisted_of, freed_of, removed_of, triggered_of}
+use Rattle.lifecycle.specs.FdtCalls.{Touched, file_at, waiting, files, sends, used, waits, ValidFdt, listed_place, transfers_of, unlisted_of, freed_of, removed_of, triggered_of}
 use Rattle.lifecycle.specs.FdtCalls.{unlisted_slot}
 use Rattle.lifecycle.proofs.FdtMeans.{is_not, Listed, listed_files, Removal, nobody, sent, waited, listed_but, ListRemoves, reset_file, Triggers}
 use Rattle.lifecycle.specs.declared.filedesc.Time.{Time}
 use Rattle.lifecycle.specs.declared.filedesc.FileDesc.{FileDesc}
 use Rattle.lifecycle.specs.declared.slots.Slot.{Slot}
 use Rattle.lifecycle.specs.declared.fdt.Fdt.{Fdt}
-use Rattle.lifecycle.specs.declared.fdt.Touched.{Touched}
 use Rattle.lifecycle.proofs.FdtFacts.{used_listed, used_sends, waits_not, listed_at, waits_at, absent, number_held, queue_place}
 use Rattle.lifecycle.proofs.FdtViews.{differs, map_two, not_in, none_at, no_right, apart, others, in_waiting, waiting_used, at_each, seen_aside, seen_leaves}
 
 -- ---- a number that is looked for
 
 -- it was not found: no listed object has it
-pub none_listed : (t : ℕ) (f : Fdt) → listed_place t f ≡ none → (k : ℕ) → is_listed_as t (slot_at f.slots k) ≡ false
+pub none_listed : (t : ℕ) (f : Fdt) → listed_place t f ≡ None → (k : ℕ) → is_listed_as t (slot_at f.slots k) ≡ false
 unfolding is_listed_as
 none_listed t f e = none_at no_slot (is_listed_as t) f.slots e refl
 
 module _ (t : ℕ) (f : Fdt) (v : ValidFdt f) where
   -- so no object that waits has it
-  none_waits : listed_place t f ≡ none → (j : ℕ) → 1 ≤ times j (waiting f) → eqb (file_at f.slots j).toi t ≡ false
+  none_waits : listed_place t f ≡ None → (j : ℕ) → 1 ≤ times j (waiting f) → eqb (file_at f.slots j).toi t ≡ false
   unfolding is_listed_as
   none_waits e j u =
       let y = slot_at f.slots j in
@@ -49,7 +48,7 @@ module _ (t : ℕ) (f : Fdt) (v : ValidFdt f) where
   sent_waits k li s j u = others f v t k li j (waiting_used f v j u) (differs k j (waiting f) (absent f v k (waits_not (slot_at f.slots k) s)) u)
 
   -- a listed object that is not in transfer stands in the queue
-  in_queue : (k : ℕ) → Listed t f k → sends (slot_at f.slots k) ≡ false → place (λ j. eqb j k) (waiting f) ≡ none → ⊥
+  in_queue : (k : ℕ) → Listed t f k → sends (slot_at f.slots k) ≡ false → place (λ j. eqb j k) (waiting f) ≡ None → ⊥
   in_queue k li s e =
       let a = not_in k (waiting f) e in
       let b = v.in_queue k in
@@ -57,7 +56,7 @@ module _ (t : ℕ) (f : Fdt) (v : ValidFdt f) where
       let d = ap one_if c in omega arith
 
   -- its place left out is its number left out
-  pub cut_keep : (k n : ℕ) → Listed t f k → at (waiting f) n ≡ some k → cut (files f) n ≡ keep (is_not t) (files f)
+  pub cut_keep : (k n : ℕ) → Listed t f k → at (waiting f) n ≡ Some k → cut (files f) n ≡ keep (is_not t) (files f)
   cut_keep k n li e =
       let w = waits_at f v n k e in
       let h = keep_cut (is_not t) (file_at f.slots) (waiting f) n k e (ap not (eq-eqb (file_at f.slots k).toi t li.number))
@@ -193,26 +192,26 @@ module _ (t : ℕ) (start : Time) (f : Fdt) (v : ValidFdt f) where
 
 -- ---- the object with a number
 
-pub given_none : {A : Type 0} (o : Option A) → given o ≡ false → o ≡ none
-given_none none e = refl
-given_none (some a) e = absurd (true≢false e)
+pub given_none : {A : Type 0} (o : Option A) → given o ≡ false → o ≡ None
+given_none None e = refl
+given_none (Some a) e = absurd (true≢false e)
 
 -- a search of two lists, one after the other
-find_append : {A : Type 0} (ok : A → Bool) (a b : List A) → find ok (a ++ b) ≡ maybe (find ok b) some (find ok a)
+find_append : {A : Type 0} (ok : A → Bool) (a b : List A) → find ok (a ++ b) ≡ maybe (find ok b) Some (find ok a)
 find_append ok [] b = refl
-find_append ok (x ∷ a) b = elim (ok x) as (λ y. (when y then some x else find ok (a ++ b)) ≡ maybe (find ok b) some (when y then some x else find ok a))
+find_append ok (x ∷ a) b = elim (ok x) as (λ y. (when y then Some x else find ok (a ++ b)) ≡ maybe (find ok b) Some (when y then Some x else find ok a))
     [ true ↦ refl | false ↦ find_append ok a b ]
 
 -- the only number of a list that passes is found
-find_only : (ok : ℕ → Bool) (l : List ℕ) (k : ℕ) → 1 ≤ times k l → ok k ≡ true → ((j : ℕ) → 1 ≤ times j l → ok j ≡ true → j ≡ k) → find ok l ≡ some k
+find_only : (ok : ℕ → Bool) (l : List ℕ) (k : ℕ) → 1 ≤ times k l → ok k ≡ true → ((j : ℕ) → 1 ≤ times j l → ok j ≡ true → j ≡ k) → find ok l ≡ Some k
 find_only ok l k h e only = go (sought ok l)
   where
-    go : Sought ok l → find ok l ≡ some k
-    go (hit m j r) = r.first ∙ ap some (only j (times_at l m j r.stands) r.passes)
+    go : Sought ok l → find ok l ≡ Some k
+    go (hit m j r) = r.first ∙ ap Some (only j (times_at l m j r.stands) r.passes)
     go (miss p u) = absurd (false≢true (sym (ap given (found_none ok l p).0) ∙ find_any ok l ∙ sym (any_map ok (λ j. j) l) ∙ any_in ok (λ j. j) l k h e))
 
 -- none passes, so none is found
-find_nothing : (ok : ℕ → Bool) (l : List ℕ) → ((j : ℕ) → ok j ≡ false) → find ok l ≡ none
+find_nothing : (ok : ℕ → Bool) (l : List ℕ) → ((j : ℕ) → ok j ≡ false) → find ok l ≡ None
 find_nothing ok [] h = refl
 find_nothing ok (k ∷ l) h = rw (h k) (find_nothing ok l h)
 
@@ -225,7 +224,7 @@ find_listed t s (k ∷ l) = go (slot_at s k).listed (eqb (file_at s k).toi t) re
     ok o = eqb o.toi t
 
     go : (a b : Bool) → eqb (file_at s k).toi t ≡ b → find ok (listed_files s l) ≡ over (file_at s) (find (λ k. is_listed_as t (slot_at s k)) l)
-        → find ok (maybe (listed_files s l) (λ o. o ∷ listed_files s l) (when a then some (file_at s k) else none)) ≡ over (file_at s) (when a && b then some k else find (λ k. is_listed_as t (slot_at s k)) l)
+        → find ok (maybe (listed_files s l) (λ o. o ∷ listed_files s l) (when a then Some (file_at s k) else None)) ≡ over (file_at s) (when a && b then Some k else find (λ k. is_listed_as t (slot_at s k)) l)
     go false b e r = r
     go true true e r = rw e
     go true false e r = rw e r
@@ -238,11 +237,11 @@ module _ (t : ℕ) (f : Fdt) (v : ValidFdt f) where
   own : (k : ℕ) → Listed t f k → (j : ℕ) → used (slot_at f.slots j) ≡ true → eqb (file_at f.slots j).toi t ≡ true → j ≡ k
   own k li j u h = apart f v j k u (used_listed (slot_at f.slots k) li.is_listed) (eqb-true (file_at f.slots j).toi t h ∙ sym li.number)
 
-  find_none : ((j : ℕ) → 1 ≤ times j (waiting f) → eqb (file_at f.slots j).toi t ≡ false) → find is_toi (files f) ≡ none
+  find_none : ((j : ℕ) → 1 ≤ times j (waiting f) → eqb (file_at f.slots j).toi t ≡ false) → find is_toi (files f) ≡ None
   unfolding is_toi
   find_none h = given_none (find is_toi (files f)) (find_any is_toi (files f) ∙ any_none is_toi (file_at f.slots) (waiting f) h)
 
-  find_own : (k n : ℕ) → Listed t f k → at (waiting f) n ≡ some k → find is_toi (files f) ≡ some (file_at f.slots k)
+  find_own : (k n : ℕ) → Listed t f k → at (waiting f) n ≡ Some k → find is_toi (files f) ≡ Some (file_at f.slots k)
   unfolding is_toi
   find_own k n li e = find_map is_toi (file_at f.slots) (waiting f)
       ∙ ap (over (file_at f.slots))
@@ -250,7 +249,7 @@ module _ (t : ℕ) (f : Fdt) (v : ValidFdt f) where
       (λ j u h. own k li j (waiting_used f v j u) h))
 
   -- it is the one in the slot that is found, if that waits
-  pub find_view : find (λ (o : FileDesc). eqb o.toi t) (files f) ≡ maybe none (λ k. when sends (slot_at f.slots k) then none else some (file_at f.slots k)) (listed_place t f)
+  pub find_view : find (λ (o : FileDesc). eqb o.toi t) (files f) ≡ maybe None (λ k. when sends (slot_at f.slots k) then None else Some (file_at f.slots k)) (listed_place t f)
   unfolding is_toi
   find_view = maybe_on (λ o. find is_toi (files f) ≡ o) (listed_place t f)
       (λ e. find_none (none_waits t f v e))
@@ -258,54 +257,54 @@ module _ (t : ℕ) (f : Fdt) (v : ValidFdt f) where
       let li = listed_at t f k e in
       if_on (λ o. find is_toi (files f) ≡ o) (sends (slot_at f.slots k))
       (λ s. find_none (sent_waits t f v k li s))
-      (λ s. maybe_on (λ o. find is_toi (files f) ≡ some (file_at f.slots k)) {d = 0} {g = λ n. n} (place (λ j. eqb j k) (waiting f))
+      (λ s. maybe_on (λ o. find is_toi (files f) ≡ Some (file_at f.slots k)) {d = 0} {g = λ n. n} (place (λ j. eqb j k) (waiting f))
       (λ q. absurd (in_queue t f v k li s q))
       (λ n q. find_own k n li (queue_place f v k n q))))
 
   -- the listed slot in transfer with the number is the one that is found, if that is in transfer
-  pub find_sent : find (λ (y : Slot). sends y && is_listed_as t y) f.slots ≡ maybe none (λ k. when sends (slot_at f.slots k) then some (slot_at f.slots k) else none) (listed_place t f)
+  pub find_sent : find (λ (y : Slot). sends y && is_listed_as t y) f.slots ≡ maybe None (λ k. when sends (slot_at f.slots k) then Some (slot_at f.slots k) else None) (listed_place t f)
   unfolding is_listed_as
   find_sent = go (sought sent_as f.slots)
     where
       sent_as : Slot → Bool
       sent_as y = sends y && is_listed_as t y
 
-      go : Sought sent_as f.slots → find sent_as f.slots ≡ maybe none (λ k. when sends (slot_at f.slots k) then some (slot_at f.slots k) else none) (listed_place t f)
+      go : Sought sent_as f.slots → find sent_as f.slots ≡ maybe None (λ k. when sends (slot_at f.slots k) then Some (slot_at f.slots k) else None) (listed_place t f)
       go (hit m x h) = (
           let y = slot_at f.slots m in
           let a = (at_get no_slot f.slots m x h.stands).0 in
           let o : (sends y && is_listed_as t y) ≡ true = subst (λ z. sent_as z ≡ true) (sym a) h.passes in
           let s = and_left (sends y) (is_listed_as t y) o in
           let g = and_right (sends y) (is_listed_as t y) o in
-          h.first ∙ ap some (sym a) ∙ maybe_on (λ z. some y ≡ z) (listed_place t f)
+          h.first ∙ ap Some (sym a) ∙ maybe_on (λ z. Some y ≡ z) (listed_place t f)
           (λ e. absurd (false≢true (sym (none_listed t f e m) ∙ g)))
           (λ k e.
           let q = own k (listed_at t f k e) m (used_sends y s) (and_right y.listed (eqb y.file.toi t) g) in
-          subst (λ j. some y ≡ (when sends (slot_at f.slots j) then some (slot_at f.slots j) else none)) q (rw s)))
-      go (miss p u) = (found_none sent_as f.slots p).0 ∙ maybe_on (λ (z : Option Slot). none ≡ z) (listed_place t f) (λ e. refl) (λ k e.
+          subst (λ j. Some y ≡ (when sends (slot_at f.slots j) then Some (slot_at f.slots j) else None)) q (rw s)))
+      go (miss p u) = (found_none sent_as f.slots p).0 ∙ maybe_on (λ (z : Option Slot). None ≡ z) (listed_place t f) (λ e. refl) (λ k e.
           let y = slot_at f.slots k in
           let li = listed_at t f k e in
-          if_on (λ (z : Option Slot). none ≡ z) (sends y)
+          if_on (λ (z : Option Slot). None ≡ z) (sends y)
           (λ s. absurd (false≢true (sym (u k y (at_inside no_slot f.slots k li.inn)) ∙ (λ i. s i && (li.is_listed i && eq-eqb y.file.toi t li.number i)))))
           (λ s. refl))
 
   -- the total of the object that waits with the number, else of the listed one in transfer, else none
   pub transfers_view : transfers_of t f ≡ maybe
       (over (λ (y : Slot). y.file.life.total) (find (λ (y : Slot). sends y && is_listed_as t y) f.slots))
-      (λ (o : FileDesc). some (life_of o.life).total)
+      (λ (o : FileDesc). Some (life_of o.life).total)
       (find (λ (o : FileDesc). eqb o.toi t) (files f))
   unfolding transfers_of
-  transfers_view = both (listed_place t f) ∙ (λ i. maybe (over (λ (y : Slot). y.file.life.total) (sym find_sent i)) (λ (o : FileDesc). some (life_of o.life).total) (sym find_view i))
+  transfers_view = both (listed_place t f) ∙ (λ i. maybe (over (λ (y : Slot). y.file.life.total) (sym find_sent i)) (λ (o : FileDesc). Some (life_of o.life).total) (sym find_view i))
     where
-      both : (o : Option ℕ) → maybe none (λ k. some (slot_at f.slots k).file.life.total) o ≡ maybe
-          (over (λ (y : Slot). y.file.life.total) (maybe none (λ k. when sends (slot_at f.slots k) then some (slot_at f.slots k) else none) o))
-          (λ (o : FileDesc). some (life_of o.life).total)
-          (maybe none (λ k. when sends (slot_at f.slots k) then none else some (file_at f.slots k)) o)
-      both none = refl
-      both (some k) = elim (sends (slot_at f.slots k)) as (λ b. some (slot_at f.slots k).file.life.total ≡ maybe
-          (over (λ (y : Slot). y.file.life.total) (when b then some (slot_at f.slots k) else none))
-          (λ (o : FileDesc). some (life_of o.life).total)
-          (when b then none else some (file_at f.slots k))) [ true ↦ refl | false ↦ refl ]
+      both : (o : Option ℕ) → maybe None (λ k. Some (slot_at f.slots k).file.life.total) o ≡ maybe
+          (over (λ (y : Slot). y.file.life.total) (maybe None (λ k. when sends (slot_at f.slots k) then Some (slot_at f.slots k) else None) o))
+          (λ (o : FileDesc). Some (life_of o.life).total)
+          (maybe None (λ k. when sends (slot_at f.slots k) then None else Some (file_at f.slots k)) o)
+      both None = refl
+      both (Some k) = elim (sends (slot_at f.slots k)) as (λ b. Some (slot_at f.slots k).file.life.total ≡ maybe
+          (over (λ (y : Slot). y.file.life.total) (when b then Some (slot_at f.slots k) else None))
+          (λ (o : FileDesc). Some (life_of o.life).total)
+          (when b then None else Some (file_at f.slots k))) [ true ↦ refl | false ↦ refl ]
 
   -- with any list that has each slot in transfer once: the listed objects are those that wait, then the listed ones of that list
   module _ (l : List ℕ) (c : Counts no_slot sends f.slots l) where
@@ -313,7 +312,7 @@ module _ (t : ℕ) (f : Fdt) (v : ValidFdt f) where
     unfolding is_listed_as
     listed_view =
         find_append (λ (o : FileDesc). eqb o.toi t) (files f) (listed_files f.slots l)
-        ∙ (λ i. maybe (find_listed t f.slots l i) some (find_view i))
+        ∙ (λ i. maybe (find_listed t f.slots l i) Some (find_view i))
         ∙ go (listed_place t f) refl
       where
         ok : ℕ → Bool
@@ -322,30 +321,30 @@ module _ (t : ℕ) (f : Fdt) (v : ValidFdt f) where
         in_list : (j : ℕ) → 1 ≤ times j l → sends (slot_at f.slots j) ≡ true
         in_list j u = one_true (sends (slot_at f.slots j)) (let a = c j in omega arith)
 
-        found : (k : ℕ) → Listed t f k → (b : Bool) → sends (slot_at f.slots k) ≡ b → maybe (over (file_at f.slots) (find ok l)) some (when b then none else some (file_at f.slots k)) ≡ some (file_at f.slots k)
+        found : (k : ℕ) → Listed t f k → (b : Bool) → sends (slot_at f.slots k) ≡ b → maybe (over (file_at f.slots) (find ok l)) Some (when b then None else Some (file_at f.slots k)) ≡ Some (file_at f.slots k)
         found k li true s = ap (over (file_at f.slots))
             (find_only ok l k (let a = c k in let b = ap one_if s in omega arith) (λ i. li.is_listed i && eq-eqb (file_at f.slots k).toi t li.number i)
             (λ j u h. let y = slot_at f.slots j in own k li j (used_sends y (in_list j u)) (and_right y.listed (eqb y.file.toi t) h)))
         found k li false s = refl
 
         go : (o : Option ℕ) → listed_place t f ≡ o
-            → maybe (over (file_at f.slots) (find ok l)) some (maybe none (λ k. when sends (slot_at f.slots k) then none else some (file_at f.slots k)) o) ≡ over (file_at f.slots) o
-        go none e = ap (over (file_at f.slots)) (find_nothing ok l (none_listed t f e))
-        go (some k) e = found k (listed_at t f k e) (sends (slot_at f.slots k)) refl
+            → maybe (over (file_at f.slots) (find ok l)) Some (maybe None (λ k. when sends (slot_at f.slots k) then None else Some (file_at f.slots k)) o) ≡ over (file_at f.slots) o
+        go None e = ap (over (file_at f.slots)) (find_nothing ok l (none_listed t f e))
+        go (Some k) e = found k (listed_at t f k e) (sends (slot_at f.slots k)) refl
 
     -- is one listed with the number
     pub listed_given : given (listed_place t f) ≡ given (find (λ (o : FileDesc). eqb o.toi t) (files f ++ listed_files f.slots l))
     listed_given = go (listed_place t f) ∙ sym (ap given listed_view)
       where
         go : (o : Option ℕ) → given o ≡ given (over (file_at f.slots) o)
-        go none = refl
-        go (some k) = refl
+        go None = refl
+        go (Some k) = refl
 
     -- its total
-    pub transfers_listed : transfers_of t f ≡ maybe none (λ (o : FileDesc). some (life_of o.life).total) (find (λ (o : FileDesc). eqb o.toi t) (files f ++ listed_files f.slots l))
+    pub transfers_listed : transfers_of t f ≡ maybe None (λ (o : FileDesc). Some (life_of o.life).total) (find (λ (o : FileDesc). eqb o.toi t) (files f ++ listed_files f.slots l))
     unfolding transfers_of
-    transfers_listed = go (listed_place t f) ∙ sym (ap (maybe none (λ (o : FileDesc). some (life_of o.life).total)) listed_view)
+    transfers_listed = go (listed_place t f) ∙ sym (ap (maybe None (λ (o : FileDesc). Some (life_of o.life).total)) listed_view)
       where
-        go : (o : Option ℕ) → maybe none (λ k. some (slot_at f.slots k).file.life.total) o ≡ maybe none (λ (o : FileDesc). some (life_of o.life).total) (over (file_at f.slots) o)
-        go none = refl
-        go (some k) = refl
+        go : (o : Option ℕ) → maybe None (λ k. Some (slot_at f.slots k).file.life.total) o ≡ maybe None (λ (o : FileDesc). Some (life_of o.life).total) (over (file_at f.slots) o)
+        go None = refl
+        go (Some k) = refl

@@ -1,7 +1,7 @@
 -- What is known of a slot that waits, of one that is sent, of one that is free; a slot changed, and the queue with it.
 use mathlib.Core.Path.{◌≡◌, refl, sym, ◌∙◌, ap, subst}
 use mathlib.Core.Bool.{Bool, true, false, not, ◌&&◌, ◌||◌}
-use mathlib.Core.Option.{Option, none, some}
+use Rattle.std.specs.Prelude.{Option, None, Some}
 use mathlib.Core.List.{List, [], ◌∷◌, ◌++◌}
 use Prim.Native.Nat.{ℕ, suc, ◌+◌, ◌-◌, ◌≤◌, ◌<◌}
 use native.Mathlib.Omega.{arith}
@@ -37,9 +37,9 @@ or_yes false b e = e
 
 -- the number that a slot holds
 abbrev pub toi_in : Slot → Option ℕ
-toi_in v = when used v then some v.file.toi else none
+toi_in v = when used v then Some v.file.toi else None
 
-pub toi_used : (v : Slot) → used v ≡ true → toi_in v ≡ some v.file.toi
+pub toi_used : (v : Slot) → used v ≡ true → toi_in v ≡ Some v.file.toi
 toi_used v e = rw e
 
 pub used_listed : (v : Slot) → v.listed ≡ true → used v ≡ true
@@ -53,7 +53,7 @@ waits_not v e = and_not v.listed (sends v) e
 
 -- ---- a slot in its place
 
-pub listed_at : (t : ℕ) (f : Fdt) (k : ℕ) → listed_place t f ≡ some k → Listed t f k
+pub listed_at : (t : ℕ) (f : Fdt) (k : ℕ) → listed_place t f ≡ Some k → Listed t f k
 unfolding is_listed_as
 listed_at t f k e =
     let h = found_first (is_listed_as t) f.slots k e in
@@ -77,7 +77,7 @@ free_slot v t e =
     none_if false h = refl
 
 module _ (f : Fdt) (v : ValidFdt f) where
-  pub waits_at : (n k : ℕ) → at (waiting f) n ≡ some k → Waits f n k
+  pub waits_at : (n k : ℕ) → at (waiting f) n ≡ Some k → Waits f n k
   waits_at n k e =
       let y = slot_at f.slots k in
       let a = times_at (waiting f) n k e in
@@ -115,12 +115,12 @@ module _ (f : Fdt) (v : ValidFdt f) where
       let b = collect_at toi_in f.slots k y y.file.toi (at_inside no_slot f.slots k inn) (toi_used y u) in omega arith
 
   -- what the searches by slot number and for a free slot found
-  pub queue_place : (k n : ℕ) → place (λ j. eqb j k) (waiting f) ≡ some n → at (waiting f) n ≡ some k
+  pub queue_place : (k n : ℕ) → place (λ j. eqb j k) (waiting f) ≡ Some n → at (waiting f) n ≡ Some k
   queue_place k n e =
       let h = found_first (λ j. eqb j k) (waiting f) n e in
-      h.1.stands ∙ ap some (eqb-true h.0 k h.1.passes)
+      h.1.stands ∙ ap Some (eqb-true h.0 k h.1.passes)
 
-  pub free_at : (k : ℕ) → place is_free f.slots ≡ some k → (k < length f.slots) × Free (slot_at f.slots k)
+  pub free_at : (k : ℕ) → place is_free f.slots ≡ Some k → (k < length f.slots) × Free (slot_at f.slots k)
   free_at k e =
       let h = found_first is_free f.slots k e in
       let a = at_get no_slot f.slots k h.0 h.1.stands in

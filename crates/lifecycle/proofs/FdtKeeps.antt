@@ -1,7 +1,7 @@
 -- What each call leaves as it was, and, where that is short, all that it does: the layer above cites these laws and unfolds none of the calls.
 use mathlib.Core.Path.{◌≡◌, refl, sym, ap}
 use mathlib.Core.Bool.{Bool, true, false, ◌||◌}
-use mathlib.Core.Option.{Option, none, some}
+use Rattle.std.specs.Prelude.{Option, None, Some, Ok, Err}
 use mathlib.Core.List.{List, [], ◌∷◌}
 use Prim.Native.Nat.{ℕ, zero, suc, ◌<◌}
 use lib.Dec.{eqb, ltb, leb}
@@ -18,26 +18,16 @@ use Rattle.sizes.proofs.Tests.{none≢some, or_left, or_right, if_on, maybe_on}
 use Rattle.sizes.proofs.AllocatorViews.{allocated_width, claimed_width, dropped_width}
 use Rattle.lifecycle.specs.Setup.{bad_blocks}
 use Rattle.lifecycle.specs.Slots.{no_slot, slot_at, is_free, queue_startable, published_slot}
-use Rattle.lifecycle.specs.Announce.{state_of, draft_given, queued_of, bad_fdt_of}
-use Rattle.lifecycle.specs.FdtCalls.{waiting, files, sends, ValidFdt, with_tois, with_objects, reserved_of, released_of, own_of, bad_part_of, put_of, named_of, fresh_of, numbered_of, added_of, listed_place, is_added_of, unlisted_of, freed_of, removed_of, triggered_of, taken_at, taken_of, goes_back, back_of, let_go_of, done_of, with_published, publish_of, real_draft, draft_test_of, opening_fdt}
+use Rattle.lifecycle.specs.Announce.{state_of, queued_of, bad_fdt_of}
+use Rattle.lifecycle.specs.FdtCalls.{Added, Touched, Taken, Published, waiting, files, sends, ValidFdt, with_tois, with_objects, reserved_of, released_of, own_of, bad_part_of, put_of, named_of, fresh_of, numbered_of, added_of, listed_place, is_added_of, unlisted_of, freed_of, removed_of, triggered_of, taken_at, taken_of, goes_back, back_of, let_go_of, done_of, with_published, publish_of, real_draft, draft_test_of, opening_fdt}
 use Rattle.lifecycle.proofs.FdtMeans.{Removal, nobody, sent, waited, published_file}
 use Rattle.lifecycle.specs.declared.parts.Part.{Part}
 use Rattle.lifecycle.specs.declared.filedesc.Time.{Time}
 use Rattle.lifecycle.specs.declared.slots.Slot.{Slot}
 use Rattle.lifecycle.specs.declared.announce.Announcer.{Announcer}
-use Rattle.lifecycle.specs.declared.announce.Draft.{Draft}
-use Rattle.lifecycle.specs.declared.announce.Draft.TheVariants as DraftV
 use Rattle.lifecycle.specs.declared.fdt.Fdt.{Fdt}
 use Rattle.lifecycle.specs.declared.fdt.Settings.{Settings}
-use Rattle.lifecycle.specs.declared.fdt.Own.TheVariants as OwnV
-use Rattle.lifecycle.specs.declared.fdt.Named.{Named}
-use Rattle.lifecycle.specs.declared.fdt.Named.TheVariants as NamedV
 use Rattle.lifecycle.specs.declared.fdt.Request.{Request}
-use Rattle.lifecycle.specs.declared.fdt.Added.{Added}
-use Rattle.lifecycle.specs.declared.fdt.Touched.{Touched}
-use Rattle.lifecycle.specs.declared.fdt.Taken.{Taken}
-use Rattle.lifecycle.specs.declared.fdt.Publication.TheVariants as PublicationV
-use Rattle.lifecycle.specs.declared.fdt.Published.{Published}
 use Rattle.lifecycle.proofs.FdtByNumber.{removed_cases}
 
 -- ---- calls on the objects and their numbers
@@ -80,17 +70,17 @@ module _ (f : Fdt) where
   released_keeps t = objects_only _ _ _ _ (dropped_width f.tois true t)
 
   -- add
-  numbered_keeps : (q : Request) (z : Sizes) (named : Named) → ObjectsOnly f (numbered_of f q z named).fdt
+  numbered_keeps : (q : Request) (z : Sizes) (named : Option ℕ) → ObjectsOnly f (numbered_of f q z named).fdt
   unfolding numbered_of named_of fresh_of put_of
-  numbered_keeps q z (NamedV.Toi t) =
+  numbered_keeps q z (Some t) =
       if_on (λ (r : Added). ObjectsOnly f r.fdt) (has t (Alloc.loose f.tois))
       (λ l. maybe_on (λ (r : Added). ObjectsOnly f r.fdt) (place is_free f.slots) (λ e. nothing_changed) (λ k e. objects_only _ _ _ _ (claimed_width f.tois t)))
       (λ l. nothing_changed)
-  numbered_keeps q z NamedV.Anew =
+  numbered_keeps q z None =
       maybe_on (λ (r : Added). ObjectsOnly f r.fdt) (place is_free f.slots) (λ e. nothing_changed)
       (λ k e. if_on (λ (r : Added). ObjectsOnly f r.fdt) (ltb f.tois.entered toi_entries) (λ l. objects_only _ _ _ _ (allocated_width f.tois false)) (λ l. nothing_changed))
 
-  pub added_keeps : (q : Request) (named : Named) → ObjectsOnly f (added_of f q named).fdt
+  pub added_keeps : (q : Request) (named : Option ℕ) → ObjectsOnly f (added_of f q named).fdt
   unfolding added_of
   added_keeps q named =
       let z = own_of q.own f.settings.sizes in
@@ -140,11 +130,11 @@ module _ (f : Fdt) where
 -- ---- what an add asks for
 
 -- its own sizes, or those of the set-up
-pub own_given : (y z : Sizes) → own_of (OwnV.Sizes y) z ≡ y
+pub own_given : (y z : Sizes) → own_of (Some y) z ≡ y
 unfolding own_of
 own_given y z = refl
 
-pub own_set_up : (z : Sizes) → own_of OwnV.SetUp z ≡ z
+pub own_set_up : (z : Sizes) → own_of None z ≡ z
 unfolding own_of
 own_set_up z = refl
 
@@ -187,14 +177,14 @@ module _ (c : Part) (f : Fdt) where
     pub nonempty : eqb c.size 0 ≡ false
     pub room : f.announcer.waiting < waiting_fdts
 
-  pub publishable : publish_refusal_of ≡ none → Publishable
+  pub publishable : publish_refusal_of ≡ None → Publishable
   publishable = by (bad_blocks f.settings.sizes c.size) (bad || eqb c.size 0) (leb waiting_fdts f.announcer.waiting) refl refl refl
     where
       bad : Bool
       bad = bad_fdt_of f.settings.fdt_store c f.announcer
 
       by : (x y z : Bool) → bad_blocks f.settings.sizes c.size ≡ x → (bad || eqb c.size 0) ≡ y → leb waiting_fdts f.announcer.waiting ≡ z
-          → first_of ((Because.Sizes, x) ∷ (Because.Part, y) ∷ (Because.Full, z) ∷ []) ≡ none → Publishable
+          → first_of ((Because.Sizes, x) ∷ (Because.Part, y) ∷ (Because.Full, z) ∷ []) ≡ None → Publishable
       by true y z p q r e = absurd (none≢some (sym e))
       by false true z p q r e = absurd (none≢some (sym e))
       by false false true p q r e = absurd (none≢some (sym e))
@@ -202,14 +192,14 @@ module _ (c : Part) (f : Fdt) where
 
   -- refused, it changes nothing; else the FDT is queued, and every listed object is marked
   abbrev pub published_by : ℕ → Option Refusal → Published
-  published_by now (some why) = record { answer = PublicationV.Refused why; fdt = f }
-  published_by now none = record { answer = PublicationV.Done; fdt = with_published f (queued_of now c f.announcer) }
+  published_by now (Some why) = record { answer = Err why; fdt = f }
+  published_by now None = record { answer = Ok tt; fdt = with_published f (queued_of now c f.announcer) }
 
   pub publish_as : (now : ℕ) → publish_of now c f ≡ published_by now publish_refusal_of
   unfolding publish_of
   publish_as now = by (bad_blocks f.settings.sizes c.size) (bad_fdt_of f.settings.fdt_store c f.announcer || eqb c.size 0) (leb waiting_fdts f.announcer.waiting)
     where
-      by : (x y z : Bool) → (when x then published_by now (some Because.Sizes) else when y then published_by now (some Because.Part) else when z then published_by now (some Because.Full) else published_by now none)
+      by : (x y z : Bool) → (when x then published_by now (Some Because.Sizes) else when y then published_by now (Some Because.Part) else when z then published_by now (Some Because.Full) else published_by now None)
           ≡ published_by now (first_of ((Because.Sizes, x) ∷ (Because.Part, y) ∷ (Because.Full, z) ∷ []))
       by true y z = refl
       by false true z = refl
@@ -224,21 +214,17 @@ queued_current now c a = refl
 -- ---- a draft
 
 -- one of length 0 is none
-pub real_given : (draft : Draft) → draft_given (real_draft draft) ≡ maybe none (λ (c : Part). when eqb c.size 0 then none else some c) (draft_given draft)
+pub real_given : (draft : Option Part) → real_draft draft ≡ maybe None (λ (c : Part). when eqb c.size 0 then None else Some c) draft
 unfolding real_draft
-real_given DraftV.Missing = refl
-real_given (DraftV.Given c) = by (eqb c.size 0)
-  where
-    by : (b : Bool) → draft_given (when b then DraftV.Missing else DraftV.Given c) ≡ (when b then none else some c)
-    by true = refl
-    by false = refl
+real_given None = refl
+real_given (Some c) = refl
 
 -- refusals 4 and 5 in their order
-pub draft_test_as : (draft : Draft) (f : Fdt) → draft_test_of draft f
-    ≡ maybe none (λ (c : Part). first_of ((Because.Sizes, bad_blocks f.settings.sizes c.size) ∷ (Because.Part, bad_fdt_of f.settings.fdt_store c f.announcer) ∷ [])) (draft_given draft)
+pub draft_test_as : (draft : Option Part) (f : Fdt) → draft_test_of draft f
+    ≡ maybe None (λ (c : Part). first_of ((Because.Sizes, bad_blocks f.settings.sizes c.size) ∷ (Because.Part, bad_fdt_of f.settings.fdt_store c f.announcer) ∷ [])) draft
 unfolding draft_test_of
-draft_test_as DraftV.Missing f = refl
-draft_test_as (DraftV.Given c) f = refl
+draft_test_as None f = refl
+draft_test_as (Some c) f = refl
 
 -- ---- before the first call
 
@@ -249,7 +235,7 @@ pub record OpeningList (z : Settings) (a : ToiAllocator) (id : ℕ) (f : Fdt) : 
   pub tois : f.tois ≡ a
   pub queue : files f ≡ []
   pub slots : (k : ℕ) → slot_at f.slots k ≡ no_slot
-  pub side : state_of f.announcer ≡ record { next_id = id; last = none; waiting = []; current = none }
+  pub side : state_of f.announcer ≡ record { next_id = id; last = None; waiting = []; current = None }
   pub none_waits : f.announcer.waiting ≡ 0
   pub no_current : f.announcer.has_current ≡ false
   pub none_sent : f.announcer.current.life.transferring ≡ false

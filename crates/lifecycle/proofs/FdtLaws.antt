@@ -1,62 +1,45 @@
 -- Laws of the calls of fdt.rt: what a valid list tells of slots and queue, and what each call comes to in each of its cases.
 use mathlib.Core.Path.{◌≡◌, refl, sym, ◌∙◌, ap, subst}
 use mathlib.Core.Bool.{Bool, true, false, not, and-false, ◌&&◌}
-use mathlib.Core.Option.{Option, none, some}
+use Rattle.std.specs.Prelude.{Option, None, Some, Ok, Err}
 use mathlib.Core.List.{List, [], ◌∷◌}
 use Prim.Native.Nat.{ℕ, ◌+◌, ◌≤◌, ◌<◌}
 use native.Mathlib.Omega.{arith}
 use lib.Dec.{eqb, ltb}
 use borrow.Author.Tests.{eq-eqb, eqb-true}
-use lib.ListN.{get_or, set, get_or-eq_default}
+use lib.ListN.{length, get_or, set, get_or-eq_default}
+use lib.Seq.{get_or-set_same, set-set}
+use Rattle.sizes.specs.declared.refusal.Refusal.{Refusal}
 use Rattle.sizes.specs.declared.refusal.Refusal.TheVariants as Because
 use Rattle.sizes.specs.Words.{has, place, Each, one_if, times}
 use Rattle.sizes.specs.Limits.{object_slots, toi_entries}
 use Rattle.sizes.specs.Allocator as Alloc
+use Rattle.sizes.specs.Allocator.{Allocated, claimed_of}
 use Rattle.sizes.specs.declared.partition.Sizes.{Sizes}
 use Rattle.sizes.specs.declared.toiallocator.ToiAllocator.{ToiAllocator}
-use Rattle.sizes.specs.declared.toiallocator.Given.TheVariants.{Number, Full}
 use Rattle.sizes.proofs.Lists.{found_first, at_take, at_get}
 use Rattle.sizes.proofs.Arrays.{each_get}
-use Rattle.sizes.proofs.Tables.{one_true, one_most, inside}
+use Rattle.sizes.proofs.Tables.{one_true, inside}
 use Rattle.sizes.proofs.AllocatorViews.{allocated_cases}
-use Rattle.sizes.specs.declared.toiallocator.Allocated.{Allocated}
 use Rattle.lifecycle.proofs.FdtFacts as Facts
-use Rattle.lifecycle.specs.Lifecycle.{expired}
-use Rattle.lifecycle.specs.FileDesc.{plan_of, life_of, with_life, reset_life}
+use Rattle.lifecycle.specs.Lifecycle.{expired, may_start}
+use Rattle.lifecycle.specs.FileDesc.{plan_of, life_of, with_life, reset_life, startable_file}
 use Rattle.lifecycle.specs.Slots.{no_slot, slot_at, is_free, is_listed_as, queue_startable}
 use Rattle.lifecycle.specs.Setup.{bad_blocks}
 use Rattle.lifecycle.specs.FdtCalls.{waiting, sends, waits, ValidFdt, with_tois, with_slots, own_of, bad_part_of, put_of, refuses, named_of, fresh_of, numbered_of, added_of, transfers_of, unlisted_of, freed_of, removed_of, triggered_of, taken_at, taken_of, ended_file, goes_back, back_of, let_go_of, done_of}
 use Rattle.lifecycle.specs.declared.filedesc.Time.{Time}
 use Rattle.lifecycle.specs.declared.slots.Slot.{Slot}
-use Rattle.sizes.specs.Place.{place_said}
-use Rattle.sizes.specs.declared.place.Place.{Place}
-use Rattle.sizes.specs.declared.place.Place.TheVariants.{At, Nothing}
 use Rattle.lifecycle.specs.declared.fdt.Fdt.{Fdt}
-use Rattle.lifecycle.specs.declared.fdt.Named.{Named}
 use Rattle.lifecycle.specs.declared.fdt.Request.{Request}
-use Rattle.lifecycle.specs.declared.fdt.Admission.TheVariants as AdmissionV
 
 -- what holds of each number that stands in a list
 each_in : (P : ℕ → Type 0) (l : List ℕ) → ((k : ℕ) → 1 ≤ times k l → P k) → Each P l
 each_in P [] h = tt
 each_in P (k ∷ l) h = (h k (let r = ap one_if (eq-eqb k k refl) in omega arith), each_in P l (λ j u. h j (omega arith)))
 
--- what a search said, in the words of its contract
-pub said_some : {r : Place} {o : Option ℕ} {n : ℕ} → place_said r ≡ o → r ≡ At n → o ≡ some n
-said_some e q = sym e ∙ ap place_said q
-
-pub said_none : {r : Place} {o : Option ℕ} → place_said r ≡ o → r ≡ Nothing → o ≡ none
-said_none e q = sym e ∙ ap place_said q
-
 -- ---- what a valid list tells
 
 module _ (f : Fdt) (v : ValidFdt f) where
-  -- as many hold it as it says, so at most the list and a session
-  pub holders_few : (k : ℕ) → (slot_at f.slots k).holders ≤ 2
-  holders_few k =
-      let a = one_most (slot_at f.slots k).listed in let b = one_most (sends (slot_at f.slots k)) in
-      let r = (v.tidy k).count in omega arith
-
   -- one that a session sends has a holder
   pub sends_held : (k : ℕ) → sends (slot_at f.slots k) ≡ true → 0 < (slot_at f.slots k).holders
   sends_held k e = let a = (v.tidy k).count in let b = ap one_if e in omega arith
@@ -78,7 +61,7 @@ module _ (f : Fdt) (v : ValidFdt f) where
   sends_room k h e = room k h (subst (λ b. ((slot_at f.slots k).listed && not b) ≡ false) (sym e) (and-false (slot_at f.slots k).listed))
 
   -- what a search of the slots says of the one that it found
-  pub found_slot : (p : Slot → Bool) (k : ℕ) → place p f.slots ≡ some k → (k < object_slots) × (p (slot_at f.slots k) ≡ true)
+  pub found_slot : (p : Slot → Bool) (k : ℕ) → place p f.slots ≡ Some k → (k < object_slots) × (p (slot_at f.slots k) ≡ true)
   found_slot p k e =
       let h = found_first p f.slots k e in
       let g = at_get no_slot f.slots k h.0 h.1.stands in
@@ -94,16 +77,25 @@ module _ (f : Fdt) (v : ValidFdt f) where
       go true b h = absurd (omega arith)
       go false b h = refl
 
-  pub free_found : (k : ℕ) → place is_free f.slots ≡ some k → (k < object_slots) × (f.queued < object_slots)
+  pub free_found : (k : ℕ) → place is_free f.slots ≡ Some k → (k < object_slots) × (f.queued < object_slots)
   free_found k e = let h = found_slot is_free k e in (h.0, room k h.0 (free_waits k h.1))
 
   -- what a search of the queue says of the place that it found
-  pub queue_found : (p : ℕ → Bool) (n : ℕ) → place p (waiting f) ≡ some n → (n < f.queued) × (n < object_slots) × (get_or f.queue n 0 < object_slots)
+  pub queue_found : (p : ℕ → Bool) (n : ℕ) → place p (waiting f) ≡ Some n → (n < f.queued) × (n < object_slots) × (get_or f.queue n 0 < object_slots)
   queue_found p n e =
       let h = found_first p (waiting f) n e in
       let g = at_take f.queue f.queued n h.0 h.1.stands in
       let a = v.queued in let b = v.queue_long in
       (g, omega arith, each_get (λ k. k < object_slots) f.queued f.queue (omega arith) n 0 g queue_inside)
+
+-- past the last slot there is nothing to start
+pub past_starts : (l : List Slot) (p now k : ℕ) → length l ≤ k → queue_startable l p now k ≡ false
+unfolding queue_startable startable_file may_start
+past_starts l p now k h = ap (λ (v : Slot). startable_file p now v.file) (get_or-eq_default l no_slot h) ∙ and-false (eqb 0 p)
+
+-- slot k is written twice
+pub twice : (l : List Slot) (k : ℕ) → k < length l → (v : Slot) (g : Slot → Slot) → set (set l k v) k (g (slot_at (set l k v) k)) ≡ set l k (g v)
+twice l k h v g = set-set l k v (g (slot_at (set l k v) k)) ∙ ap (λ w. set l k (g w)) (get_or-set_same l k v no_slot h)
 
 -- ---- add
 
@@ -113,40 +105,42 @@ module _ (f : Fdt) (q : Request) (z : Sizes) (t : ℕ) where
   named_unknown h = rw h
 
   module _ (h : has t (Alloc.loose f.tois) ≡ true) where
-    pub named_none : place is_free f.slots ≡ none → named_of f q z t ≡ refuses f Because.Full
+    pub named_none : place is_free f.slots ≡ None → named_of f q z t ≡ refuses f Because.Full
     unfolding named_of
     named_none p = rw (h, p)
 
-    pub named_some : (k : ℕ) → place is_free f.slots ≡ some k
-        → named_of f q z t ≡ record { answer = AdmissionV.Toi t; fdt = put_of (with_tois f (Alloc.claimed_of t f.tois).allocator) k t q z }
+    pub named_some : (k : ℕ) → place is_free f.slots ≡ Some k
+        → named_of f q z t ≡ record { answer = Ok t; fdt = put_of (with_tois f (Alloc.claimed_of t f.tois).allocator) k t q z }
     unfolding named_of
     named_some k p = rw (h, p)
 
 -- what the allocator says tells whether it is full, and which number it gave
-allocated_full : (flag : Bool) (a : ToiAllocator) → (Alloc.allocated_of flag a).answer ≡ Full → ltb a.entered toi_entries ≡ false
-allocated_full flag a = allocated_cases (λ (x : Allocated). x.answer ≡ Full → ltb a.entered toi_entries ≡ false) flag a
-    (λ q e. let z : ◌≡◌ {A = ℕ} 0 1 = cc in absurd (omega arith)) (λ q e. q)
+allocated_full : (flag : Bool) (a : ToiAllocator) (why : Refusal) → (Alloc.allocated_of flag a).answer ≡ Err why
+    → (ltb a.entered toi_entries ≡ false) × (why ≡ Because.Full) × ((Alloc.allocated_of flag a).allocator ≡ a)
+allocated_full flag a why = allocated_cases (λ (x : Allocated). x.answer ≡ Err why → (ltb a.entered toi_entries ≡ false) × (why ≡ Because.Full) × (x.allocator ≡ a)) flag a
+    (λ q e. let z : ◌≡◌ {A = ℕ} 0 1 = cc in absurd (omega arith)) (λ q e. (q, cc, refl))
 
-allocated_some : (flag : Bool) (a : ToiAllocator) (t : ℕ) → (Alloc.allocated_of flag a).answer ≡ Number t → (ltb a.entered toi_entries ≡ true) × (a.next ≡ t)
-allocated_some flag a t = allocated_cases (λ (x : Allocated). x.answer ≡ Number t → (ltb a.entered toi_entries ≡ true) × (a.next ≡ t)) flag a
+allocated_some : (flag : Bool) (a : ToiAllocator) (t : ℕ) → (Alloc.allocated_of flag a).answer ≡ Ok t → (ltb a.entered toi_entries ≡ true) × (a.next ≡ t)
+allocated_some flag a t = allocated_cases (λ (x : Allocated). x.answer ≡ Ok t → (ltb a.entered toi_entries ≡ true) × (a.next ≡ t)) flag a
     (λ q e. (q, cc)) (λ q e. let z : ◌≡◌ {A = ℕ} 0 1 = cc in absurd (omega arith))
 
 module _ (f : Fdt) (q : Request) (z : Sizes) where
-  pub fresh_none : place is_free f.slots ≡ none → fresh_of f q z ≡ refuses f Because.Full
+  pub fresh_none : place is_free f.slots ≡ None → fresh_of f q z ≡ refuses f Because.Full
   unfolding fresh_of
   fresh_none p = rw p
 
-  module _ (k : ℕ) (p : place is_free f.slots ≡ some k) where
-    pub fresh_full : (Alloc.allocated_of false f.tois).answer ≡ Full → fresh_of f q z ≡ refuses f Because.Full
+  module _ (k : ℕ) (p : place is_free f.slots ≡ Some k) where
+    pub fresh_full : (why : Refusal) → (Alloc.allocated_of false f.tois).answer ≡ Err why
+        → fresh_of f q z ≡ record { answer = Err why; fdt = with_tois f (Alloc.allocated_of false f.tois).allocator }
     unfolding fresh_of
-    fresh_full e = rw (p, allocated_full false f.tois e)
+    fresh_full why e = let r = allocated_full false f.tois why e in rw (p, r.0, r.1, r.2)
 
-    pub fresh_some : (t : ℕ) → (Alloc.allocated_of false f.tois).answer ≡ Number t
-        → fresh_of f q z ≡ record { answer = AdmissionV.Toi t; fdt = put_of (with_tois f (Alloc.allocated_of false f.tois).allocator) k t q z }
+    pub fresh_some : (t : ℕ) → (Alloc.allocated_of false f.tois).answer ≡ Ok t
+        → fresh_of f q z ≡ record { answer = Ok t; fdt = put_of (with_tois f (Alloc.allocated_of false f.tois).allocator) k t q z }
     unfolding fresh_of
     fresh_some t e = let r = allocated_some false f.tois t e in rw (p, r.0, r.1)
 
-module _ (f : Fdt) (q : Request) (named : Named) where
+module _ (f : Fdt) (q : Request) (named : Option ℕ) where
   pub added_complete : f.complete ≡ true → added_of f q named ≡ refuses f Because.Complete
   unfolding added_of
   added_complete e = rw e
@@ -168,20 +162,20 @@ module _ (f : Fdt) (q : Request) (named : Named) where
 -- ---- by number
 
 module _ (t : ℕ) (f : Fdt) where
-  pub transfers_none : place (is_listed_as t) f.slots ≡ none → transfers_of t f ≡ none
+  pub transfers_none : place (is_listed_as t) f.slots ≡ None → transfers_of t f ≡ None
   unfolding transfers_of
   transfers_none p = rw p
 
-  pub removed_none : place (is_listed_as t) f.slots ≡ none → removed_of t f ≡ record { yes = false; fdt = f }
+  pub removed_none : place (is_listed_as t) f.slots ≡ None → removed_of t f ≡ record { yes = false; fdt = f }
   unfolding removed_of
   removed_none p = rw p
 
-  pub triggered_none : (start : Time) → place (is_listed_as t) f.slots ≡ none → triggered_of t start f ≡ record { yes = false; fdt = f }
+  pub triggered_none : (start : Time) → place (is_listed_as t) f.slots ≡ None → triggered_of t start f ≡ record { yes = false; fdt = f }
   unfolding triggered_of
   triggered_none start p = rw p
 
-  module _ (k : ℕ) (p : place (is_listed_as t) f.slots ≡ some k) where
-    pub transfers_some : transfers_of t f ≡ some (slot_at f.slots k).file.life.total
+  module _ (k : ℕ) (p : place (is_listed_as t) f.slots ≡ Some k) where
+    pub transfers_some : transfers_of t f ≡ Some (slot_at f.slots k).file.life.total
     unfolding transfers_of
     transfers_some = rw p
 
@@ -194,11 +188,11 @@ module _ (t : ℕ) (f : Fdt) where
     triggered_sent start e = rw (p, e)
 
     module _ (e : sends (slot_at f.slots k) ≡ false) where
-      pub removed_stays : place (λ j. eqb j k) (waiting f) ≡ none → removed_of t f ≡ record { yes = true; fdt = f }
+      pub removed_stays : place (λ j. eqb j k) (waiting f) ≡ None → removed_of t f ≡ record { yes = true; fdt = f }
       unfolding removed_of
       removed_stays m = rw (p, e, m)
 
-      pub removed_freed : (n : ℕ) → place (λ j. eqb j k) (waiting f) ≡ some n → removed_of t f ≡ record { yes = true; fdt = freed_of f t k n }
+      pub removed_freed : (n : ℕ) → place (λ j. eqb j k) (waiting f) ≡ Some n → removed_of t f ≡ record { yes = true; fdt = freed_of f t k n }
       unfolding removed_of
       removed_freed n m = rw (p, e, m)
 
@@ -211,19 +205,18 @@ module _ (t : ℕ) (f : Fdt) where
 
 -- ---- transfers
 
--- what the search of the queue said
-module _ (p now : ℕ) (f : Fdt) {r : Place} (m : place_said r ≡ place (queue_startable f.slots p now) (waiting f)) where
-  pub taken_none : r ≡ Nothing → taken_of p now f ≡ record { answer = Nothing; fdt = f }
+module _ (p now : ℕ) (f : Fdt) where
+  pub taken_none : place (queue_startable f.slots p now) (waiting f) ≡ None → taken_of p now f ≡ record { answer = None; fdt = f }
   unfolding taken_of
-  taken_none q = rw (said_none m q)
+  taken_none e = rw e
 
-  module _ {n : ℕ} (q : r ≡ At n) where
+  module _ {n : ℕ} (e : place (queue_startable f.slots p now) (waiting f) ≡ Some n) where
     pub startable_found : ValidFdt f → (n < f.queued) × (n < object_slots) × (get_or f.queue n 0 < object_slots)
-    startable_found v = queue_found f v (queue_startable f.slots p now) n (said_some m q)
+    startable_found v = queue_found f v (queue_startable f.slots p now) n e
 
-    pub taken_some : taken_of p now f ≡ record { answer = At (get_or f.queue n 0); fdt = taken_at now f n (get_or f.queue n 0) }
+    pub taken_some : taken_of p now f ≡ record { answer = Some (get_or f.queue n 0); fdt = taken_at now f n (get_or f.queue n 0) }
     unfolding taken_of
-    taken_some = rw (said_some m q)
+    taken_some = rw e
 
 module _ (now k : ℕ) (f : Fdt) where
   -- a slot that is not in transfer stays as it is

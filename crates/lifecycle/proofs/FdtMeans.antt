@@ -1,7 +1,7 @@
 -- What each call of fdt.rt means for the layer above: the objects that wait, in order, and the slots in transfer.
 use mathlib.Core.Path.{◌≡◌}
 use mathlib.Core.Bool.{Bool, true, false, not, ◌&&◌, ◌||◌}
-use mathlib.Core.Option.{none, some}
+use Rattle.std.specs.Prelude.{Option, None, Some, Ok}
 use mathlib.Core.List.{List, [], ◌∷◌, ◌++◌, map}
 use Prim.Native.Nat.{ℕ, ◌<◌}
 use lib.Dec.{eqb, ltb}
@@ -16,21 +16,12 @@ use Rattle.sizes.specs.declared.partition.Sizes.{Sizes}
 use Rattle.sizes.specs.declared.toiallocator.ToiAllocator.{ToiAllocator}
 use Rattle.lifecycle.specs.FileDesc.{with_life, reset_life, published_life, startable_file}
 use Rattle.lifecycle.specs.Slots.{no_slot, slot_at, is_free, is_listed_as}
-use Rattle.lifecycle.specs.FdtCalls.{waiting, file_at, files, sends, used, refuses, new_slot, unlisted_slot, started_slot, ended_file, ended_slot, goes_back}
+use Rattle.lifecycle.specs.FdtCalls.{Added, Touched, Taken, waiting, file_at, files, sends, used, refuses, new_slot, unlisted_slot, started_slot, ended_file, ended_slot, goes_back}
 use Rattle.lifecycle.specs.declared.filedesc.Time.{Time}
 use Rattle.lifecycle.specs.declared.filedesc.FileDesc.{FileDesc}
 use Rattle.lifecycle.specs.declared.slots.Slot.{Slot}
-use Rattle.sizes.specs.Place.{place_said}
-use Rattle.sizes.specs.declared.place.Place.{Place}
-use Rattle.sizes.specs.declared.place.Place.TheVariants.{At, Nothing}
 use Rattle.lifecycle.specs.declared.fdt.Fdt.{Fdt}
-use Rattle.lifecycle.specs.declared.fdt.Named.{Named}
-use Rattle.lifecycle.specs.declared.fdt.Named.TheVariants as NamedV
 use Rattle.lifecycle.specs.declared.fdt.Request.{Request}
-use Rattle.lifecycle.specs.declared.fdt.Admission.TheVariants as AdmissionV
-use Rattle.lifecycle.specs.declared.fdt.Added.{Added}
-use Rattle.lifecycle.specs.declared.fdt.Touched.{Touched}
-use Rattle.lifecycle.specs.declared.fdt.Taken.{Taken}
 
 -- ---- a slot
 
@@ -60,7 +51,7 @@ pub record Listed (t : ℕ) (f : Fdt) (k : ℕ) : Type 0 where
 
 -- the listed objects in the slots of a list
 abbrev pub listed_files : List Slot → List ℕ → List FileDesc
-listed_files s = collect (λ k. when (slot_at s k).listed then some (file_at s k) else none)
+listed_files s = collect (λ k. when (slot_at s k).listed then Some (file_at s k) else None)
 
 -- ---- a change
 
@@ -77,32 +68,32 @@ SentSame f r = (j : ℕ) → sends (slot_at r.slots j) ≡ sends (slot_at f.slot
 -- ---- add
 
 -- where its number is from: a reservation, loose until now; or the allocator's next
-abbrev pub Numbers : Named → ℕ → ToiAllocator → ToiAllocator → Type 0
-Numbers (NamedV.Toi u) t a b = (t ≡ u) × (has u (Alloc.loose a) ≡ true) × (b ≡ (Alloc.claimed_of u a).allocator)
-Numbers NamedV.Anew t a b = (t ≡ a.next) × (a.entered < toi_entries) × (b ≡ Alloc.moved_on (Alloc.noting false a))
+abbrev pub Numbers : Option ℕ → ℕ → ToiAllocator → ToiAllocator → Type 0
+Numbers (Some u) t a b = (t ≡ u) × (has u (Alloc.loose a) ≡ true) × (b ≡ (Alloc.claimed_of u a).allocator)
+Numbers None t a b = (t ≡ a.next) × (a.entered < toi_entries) × (b ≡ Alloc.moved_on (Alloc.noting false a))
 
 -- the new object gets number t and slot k, which was free, and stands last in the queue
-pub record Admits (f : Fdt) (q : Request) (z : Sizes) (named : Named) (k t : ℕ) (r : Added) : Type 0 where
-  pub answer : r.answer ≡ AdmissionV.Toi t
-  pub found : place is_free f.slots ≡ some k
+pub record Admits (f : Fdt) (q : Request) (z : Sizes) (named : Option ℕ) (k t : ℕ) (r : Added) : Type 0 where
+  pub answer : r.answer ≡ Ok t
+  pub found : place is_free f.slots ≡ Some k
   pub free : Free (slot_at f.slots k)
   pub number : Numbers named t f.tois r.fdt.tois
   pub view : Seen f (files f ++ ((new_slot q z t).file ∷ [])) k (new_slot q z t) r.fdt
 
 -- refused, and nothing has changed; or admitted
-pub data ListAdds (f : Fdt) (q : Request) (z : Sizes) (named : Named) (r : Added) : Type 0 where
+pub data ListAdds (f : Fdt) (q : Request) (z : Sizes) (named : Option ℕ) (r : Added) : Type 0 where
   refused : (why : Refusal) → r ≡ refuses f why → ListAdds f q z named r
   admits : (k t : ℕ) → Admits f q z named k t r → ListAdds f q z named r
 
 -- refusal 6: the reservation that is named is not loose
-abbrev pub unknown : Named → Fdt → Bool
-unknown (NamedV.Toi t) f = not (has t (Alloc.loose f.tois))
-unknown NamedV.Anew f = false
+abbrev pub unknown : Option ℕ → Fdt → Bool
+unknown (Some t) f = not (has t (Alloc.loose f.tois))
+unknown None f = false
 
 -- refusal 7: there is no slot, or no entry for a fresh number
-abbrev pub full : Named → Fdt → Bool
-full (NamedV.Toi t) f = not (given (place is_free f.slots))
-full NamedV.Anew f = not (given (place is_free f.slots)) || not (ltb f.tois.entered toi_entries)
+abbrev pub full : Option ℕ → Fdt → Bool
+full (Some t) f = not (given (place is_free f.slots))
+full None f = not (given (place is_free f.slots)) || not (ltb f.tois.entered toi_entries)
 
 -- ---- remove
 
@@ -163,13 +154,13 @@ pub record Triggers (t : ℕ) (start : Time) (f r : Fdt) : Type 0 where
 
 -- nothing may start; or the first of the queue that may is taken
 pub data Takes (p now : ℕ) (f : Fdt) (r : Taken) : Type 0 where
-  nothing : place (startable_file p now) (files f) ≡ none → r ≡ record { answer = Nothing; fdt = f } → Takes p now f r
-  takes : (n k : ℕ) → Hit (startable_file p now) (files f) n (file_at f.slots k) → Waits f n k → r.answer ≡ At k
+  nothing : place (startable_file p now) (files f) ≡ None → r ≡ record { answer = None; fdt = f } → Takes p now f r
+  takes : (n k : ℕ) → Hit (startable_file p now) (files f) n (file_at f.slots k) → Waits f n k → r.answer ≡ Some k
       → Seen f (cut (files f) n) k (started_slot now (slot_at f.slots k)) r.fdt → Takes p now f r
 
 -- is it the slot that was taken
-abbrev pub is_taken : Place → ℕ → Bool
-is_taken a j = maybe false (λ k. eqb k j) (place_said a)
+abbrev pub is_taken : Option ℕ → ℕ → Bool
+is_taken a j = maybe false (λ k. eqb k j) a
 
 -- ---- done
 

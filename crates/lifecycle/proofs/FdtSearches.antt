@@ -1,7 +1,7 @@
 -- The searches over the slots, read off the objects that wait and the slots in transfer.
 use mathlib.Core.Path.{◌≡◌, refl, sym, ◌∙◌, ap, subst}
 use mathlib.Core.Bool.{Bool, true, false, not, ◌&&◌, ◌||◌}
-use mathlib.Core.Option.{some}
+use Rattle.std.specs.Prelude.{Some}
 use mathlib.Core.List.{List, [], ◌∷◌}
 use Prim.Native.Nat.{ℕ, suc, ◌+◌}
 use native.Mathlib.Omega.{arith}
@@ -107,7 +107,7 @@ module _ (f : Fdt) (v : ValidFdt f) where
   pub free_view : given (place is_free f.slots) ≡ ltb (tally used f.slots) object_slots
   free_view = go (sought is_free f.slots)
     where
-      taken : ((i : ℕ) (y : Slot) → at f.slots i ≡ some y → is_free y ≡ false) → (i : ℕ) (y : Slot) → at f.slots i ≡ some y → used y ≡ true
+      taken : ((i : ℕ) (y : Slot) → at f.slots i ≡ Some y → is_free y ≡ false) → (i : ℕ) (y : Slot) → at f.slots i ≡ Some y → used y ≡ true
       taken u i y e =
           let t : Tidy y = subst Tidy (at_get no_slot f.slots i y e).0 (v.tidy i) in
           not-false (used y) (sym (free_used y t) ∙ u i y e)

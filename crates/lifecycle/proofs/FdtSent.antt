@@ -1,7 +1,7 @@
 -- Which slots are in transfer after each call: a take adds one, the end of a transfer takes one away, and no other call changes any.
 use mathlib.Core.Path.{◌≡◌, refl, sym, ◌∙◌, ap, subst}
 use mathlib.Core.Bool.{Bool, true, false, not, ◌&&◌, ◌||◌, false≢true}
-use mathlib.Core.Option.{Option, none, some}
+use Rattle.std.specs.Prelude.{Option, None, Some}
 use mathlib.Core.List.{List}
 use Prim.Native.Nat.{ℕ, ◌+◌}
 use native.Mathlib.Omega.{arith}
@@ -13,17 +13,12 @@ use Rattle.sizes.proofs.Tests.{if_on}
 use Rattle.lifecycle.specs.FileDesc.{started_life, done_life}
 use Rattle.lifecycle.specs.Announce.{fdt_plan_of, next_of, queued_of}
 use Rattle.lifecycle.specs.Slots.{no_slot, slot_at}
-use Rattle.lifecycle.specs.FdtCalls.{sends, ValidFdt, completed_of, reserved_of, released_of, own_of, added_of, taken_of, done_of, with_published, publish_of, next_fdt_of, fdt_done_of}
+use Rattle.lifecycle.specs.FdtCalls.{Taken, Added, Published, sends, ValidFdt, completed_of, reserved_of, released_of, own_of, added_of, taken_of, done_of, with_published, publish_of, next_fdt_of, fdt_done_of}
 use Rattle.lifecycle.proofs.FdtMeans.{SentSame, ListAdds, refused, admits, Takes, nothing, takes, is_taken, Ends, idle, back, gone}
 use Rattle.lifecycle.specs.declared.parts.Part.{Part}
 use Rattle.lifecycle.specs.declared.announce.Announcer.{Announcer}
-use Rattle.lifecycle.specs.declared.announce.Draft.{Draft}
 use Rattle.lifecycle.specs.declared.fdt.Fdt.{Fdt}
-use Rattle.lifecycle.specs.declared.fdt.Taken.{Taken}
-use Rattle.lifecycle.specs.declared.fdt.Added.{Added}
-use Rattle.lifecycle.specs.declared.fdt.Published.{Published}
 use Rattle.lifecycle.specs.declared.fdt.Request.{Request}
-use Rattle.lifecycle.specs.declared.fdt.Named.{Named}
 use Rattle.lifecycle.proofs.FdtViews.{at_each, taken_view, done_view, published_at}
 use Rattle.lifecycle.proofs.FdtKeeps.{marks_slot, publish_refusal_of, published_by, publish_as}
 use Rattle.lifecycle.proofs.FdtAdds.{added_view}
@@ -104,7 +99,7 @@ module _ (f : Fdt) (v : ValidFdt f) (now k : ℕ) where
 -- ---- every other call; remove and trigger say it in their views
 
 module _ (f : Fdt) where
-  pub added_sent : ValidFdt f → (q : Request) (named : Named) → SentSame f (added_of f q named).fdt
+  pub added_sent : ValidFdt f → (q : Request) (named : Option ℕ) → SentSame f (added_of f q named).fdt
   added_sent v q named = go (added_of f q named) (added_view f v q named)
     where
       go : (r : Added) → ListAdds f q (own_of q.own f.settings.sizes) named r → SentSame f r.fdt
@@ -131,10 +126,10 @@ module _ (f : Fdt) where
   publish_sent now c = subst (λ (r : Published). SentSame f r.fdt) (sym (publish_as c f now)) (by (publish_refusal_of c f))
     where
       by : (o : Option Refusal) → SentSame f (published_by c f now o).fdt
-      by (some why) j = refl
-      by none j = announced_sent (queued_of now c f.announcer) j
+      by (Some why) j = refl
+      by None j = announced_sent (queued_of now c f.announcer) j
 
-  pub next_fdt_sent : (now : ℕ) (draft : Draft) → SentSame f (next_fdt_of now draft f).fdt
+  pub next_fdt_sent : (now : ℕ) (draft : Option Part) → SentSame f (next_fdt_of now draft f).fdt
   unfolding next_fdt_of
   next_fdt_sent now draft =
       let n = next_of (fdt_plan_of f.settings.from_start f.settings.interval) f.settings.validity now draft f.announcer in

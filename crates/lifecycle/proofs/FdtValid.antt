@@ -1,7 +1,7 @@
 -- After every call the list is valid again.
 use mathlib.Core.Path.{◌≡◌, refl, sym, ◌∙◌, ap, subst}
 use mathlib.Core.Bool.{true, false, not, ◌&&◌, true≢false}
-use mathlib.Core.Option.{some}
+use Rattle.std.specs.Prelude.{Option, None, Some}
 use mathlib.Core.List.{[], ◌∷◌, ◌++◌, map}
 use Prim.Native.Nat.{ℕ, zero, suc, ◌+◌, ◌-◌, ◌≤◌, ◌<◌}
 use native.Mathlib.Omega.{arith}
@@ -24,17 +24,12 @@ use Rattle.lifecycle.specs.Setup.{bad_blocks}
 use Rattle.lifecycle.specs.FileDesc.{plan_of, life_of, with_life, started_life, done_life, reset_life, file_new}
 use Rattle.lifecycle.specs.Announce.{ValidAnnouncer}
 use Rattle.lifecycle.specs.Slots.{no_slot, slot_at, is_free, queue_startable, published_slot}
-use Rattle.lifecycle.specs.FdtCalls.{waiting, sends, used, waits, used_tois, Tidy, ValidFdt, with_tois, with_slots, completed_of, reserved_of, released_of, own_of, bad_part_of, put_of, named_of, fresh_of, numbered_of, added_of, listed_place, unlisted_of, freed_of, removed_of, triggered_of, taken_at, taken_of, ended_file, goes_back, back_of, let_go_of, done_of}
+use Rattle.lifecycle.specs.FdtCalls.{Touched, Taken, Added, waiting, sends, used, waits, used_tois, Tidy, ValidFdt, with_tois, with_slots, completed_of, reserved_of, released_of, own_of, bad_part_of, put_of, named_of, fresh_of, numbered_of, added_of, listed_place, unlisted_of, freed_of, removed_of, triggered_of, taken_at, taken_of, ended_file, goes_back, back_of, let_go_of, done_of}
 use Rattle.lifecycle.proofs.FdtMeans.{Listed}
 use Rattle.lifecycle.specs.declared.filedesc.Time.{Time}
 use Rattle.lifecycle.specs.declared.slots.Slot.{Slot}
 use Rattle.lifecycle.specs.declared.fdt.Fdt.{Fdt}
-use Rattle.lifecycle.specs.declared.fdt.Touched.{Touched}
-use Rattle.lifecycle.specs.declared.fdt.Taken.{Taken}
-use Rattle.lifecycle.specs.declared.fdt.Added.{Added}
 use Rattle.lifecycle.specs.declared.fdt.Request.{Request}
-use Rattle.lifecycle.specs.declared.fdt.Named.{Named}
-use Rattle.lifecycle.specs.declared.fdt.Named.TheVariants as NamedV
 use Rattle.lifecycle.proofs.FdtFacts.{toi_in, toi_used, used_listed, used_sends, waits_not, listed_at, waits_at, room, number_held, queue_place, free_at, queue_same, queue_shut, queue_push, waiting_shut, waiting_push, valid_changed}
 
 -- ---- set-up
@@ -150,7 +145,7 @@ module _ (f : Fdt) (v : ValidFdt f) where
 
   -- ---- take
 
-  pub valid_taken_at : (now n k : ℕ) → at (waiting f) n ≡ some k → ValidFdt (taken_at now f n k)
+  pub valid_taken_at : (now n k : ℕ) → at (waiting f) n ≡ Some k → ValidFdt (taken_at now f n k)
   unfolding taken_at started_life
   valid_taken_at now n k e =
       let y = slot_at f.slots k in
@@ -237,7 +232,7 @@ module _ (f : Fdt) (v : ValidFdt f) where
       (stays no_slot waits f.slots k new li.inn (waiting f) (waiting f) v.in_queue (λ j. refl) (sym (waits_not y s)))
       (λ m. ap (λ o. times m (Alloc.bound f.tois) + adds m o) (toi_used y (used_sends y s) ∙ sym (toi_used new s)))
 
-  pub valid_freed : (t k n : ℕ) → Listed t f k → at (waiting f) n ≡ some k → ValidFdt (freed_of f t k n)
+  pub valid_freed : (t k n : ℕ) → Listed t f k → at (waiting f) n ≡ Some k → ValidFdt (freed_of f t k n)
   unfolding freed_of
   valid_freed t k n li e =
       let y = slot_at f.slots k in
@@ -262,7 +257,7 @@ module _ (f : Fdt) (v : ValidFdt f) where
 
   -- a free slot takes a new object with a number that the allocator has bound to it
   pub valid_put : (a : ToiAllocator) (k toi : ℕ) (q : Request) (z : Sizes) → Alloc.ValidAllocator a → ((n : ℕ) → times n (Alloc.bound a) ≡ times n (Alloc.bound f.tois) + one_if (eqb toi n))
-      → place is_free f.slots ≡ some k → ValidFdt (put_of (with_tois f a) k toi q z)
+      → place is_free f.slots ≡ Some k → ValidFdt (put_of (with_tois f a) k toi q z)
   unfolding put_of
   valid_put a k toi q z va b e =
       let h = free_at f v k e in
@@ -300,12 +295,12 @@ module _ (f : Fdt) (v : ValidFdt f) where
       (λ l. valid_put (Alloc.allocated_of false f.tois).allocator k f.tois.next q z (valid_allocated f.tois v.tois false) (bound_more (ltb-true f.tois.entered toi_entries l)) e)
       (λ l. v))
 
-  valid_numbered : (q : Request) (z : Sizes) (named : Named) → ValidFdt (numbered_of f q z named).fdt
+  valid_numbered : (q : Request) (z : Sizes) (named : Option ℕ) → ValidFdt (numbered_of f q z named).fdt
   unfolding numbered_of
-  valid_numbered q z (NamedV.Toi t) = valid_named q z t
-  valid_numbered q z NamedV.Anew = valid_fresh q z
+  valid_numbered q z (Some t) = valid_named q z t
+  valid_numbered q z None = valid_fresh q z
 
-  pub valid_added : (q : Request) (named : Named) → ValidFdt (added_of f q named).fdt
+  pub valid_added : (q : Request) (named : Option ℕ) → ValidFdt (added_of f q named).fdt
   unfolding added_of
   valid_added q named =
       let z = own_of q.own f.settings.sizes in

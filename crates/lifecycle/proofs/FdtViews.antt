@@ -1,7 +1,7 @@
 -- Take, done and publish for the layer above: the objects that wait, in order, and the slots in transfer.
 use mathlib.Core.Path.{◌≡◌, refl, sym, ◌∙◌, ap, subst}
 use mathlib.Core.Bool.{Bool, true, false, not, ◌&&◌, true≢false, false≢true}
-use mathlib.Core.Option.{none, some}
+use Rattle.std.specs.Prelude.{None, Some}
 use mathlib.Core.List.{List, [], ◌∷◌, ◌++◌, map}
 use Prim.Native.Nat.{ℕ, suc, ◌+◌, ◌-◌, ◌≤◌, ◌<◌}
 use native.Mathlib.Omega.{arith}
@@ -23,7 +23,6 @@ use Rattle.lifecycle.specs.FdtCalls.{file_at, waiting, files, sends, used, waits
 use Rattle.lifecycle.specs.FdtCalls.{started_slot, ended_slot}
 use Rattle.lifecycle.proofs.FdtMeans.{Listed, Seen, Takes, nothing, takes, Ends, idle, back, gone, published_file}
 use Rattle.lifecycle.specs.declared.slots.Slot.{Slot}
-use Rattle.sizes.specs.declared.place.Place.TheVariants.{At}
 use Rattle.lifecycle.specs.declared.fdt.Fdt.{Fdt}
 use Rattle.lifecycle.proofs.FdtFacts.{toi_in, toi_used, used_listed, used_sends, waits_not, waits_at, absent, room, number_held, waiting_shut, waiting_push}
 
@@ -45,13 +44,13 @@ map_two g f h l u = map_in g (λ k. h (f k)) l u ∙ through l
 
 pub place_map : {A B : Type 0} (ok : B → Bool) (f : A → B) (l : List A) → place ok (map f l) ≡ place (λ a. ok (f a)) l
 place_map ok f [] = refl
-place_map ok f (a ∷ l) = ap (λ o. when ok (f a) then some 0 else over suc o) (place_map ok f l)
+place_map ok f (a ∷ l) = ap (λ o. when ok (f a) then Some 0 else over suc o) (place_map ok f l)
 
 -- what a search for a slot number, or for a slot, did not find
-pub not_in : (k : ℕ) (l : List ℕ) → place (λ j. eqb j k) l ≡ none → times k l ≡ 0
+pub not_in : (k : ℕ) (l : List ℕ) → place (λ j. eqb j k) l ≡ None → times k l ≡ 0
 not_in k l e = has_none k l (sym (find_any (λ j. eqb j k) l) ∙ ap given (found_none (λ j. eqb j k) l e).0)
 
-pub none_at : {A : Type 0} (z : A) (ok : A → Bool) (l : List A) → place ok l ≡ none → ok z ≡ false → (k : ℕ) → ok (get_or l k z) ≡ false
+pub none_at : {A : Type 0} (z : A) (ok : A → Bool) (l : List A) → place ok l ≡ None → ok z ≡ false → (k : ℕ) → ok (get_or l k z) ≡ false
 none_at z ok l e n = go (sought ok l)
   where
     go : Sought ok l → (k : ℕ) → ok (get_or l k z) ≡ false
@@ -80,7 +79,7 @@ module _ (f : Fdt) (v : ValidFdt f) where
           let inj = inside no_slot used f.slots j refl a in
           let z = other no_slot f.slots k no_slot j q in
           let g = collect_at toi_in t j (slot_at t j) n (at_inside no_slot t j (let l = length-set f.slots k no_slot in omega arith))
-          (ap toi_in z ∙ toi_used (slot_at f.slots j) a ∙ ap some e) in
+          (ap toi_in z ∙ toi_used (slot_at f.slots j) a ∙ ap Some e) in
           let c = collect_set toi_in n f.slots k y no_slot (at_inside no_slot f.slots k ink) in
           let d = ap (adds n) (toi_used y b) in
           let r = ap one_if (eq-eqb n n refl) in
@@ -130,7 +129,7 @@ module _ (f : Fdt) (v : ValidFdt f) (k : ℕ) (inn : k < length f.slots) (w : Sl
   }
 
   -- it leaves place n of the queue
-  pub seen_leaves : (n : ℕ) → at (waiting f) n ≡ some k → Seen f (cut (files f) n) k w (with_objects f a (set f.slots k w) (shut 0 f.queue n) (f.queued - 1))
+  pub seen_leaves : (n : ℕ) → at (waiting f) n ≡ Some k → Seen f (cut (files f) n) k w (with_objects f a (set f.slots k w) (shut 0 f.queue n) (f.queued - 1))
   seen_leaves n e =
       let h = waits_at f v n k e in
       record {
@@ -157,9 +156,9 @@ module _ (f : Fdt) (v : ValidFdt f) where
       let k = h.0 in
       let w = waits_at f v n k h.1.stands in
       let g = found_first (startable_file p now) (files f) n (startable_place p now ∙ e) in
-      let there : at (files f) n ≡ some (file_at f.slots k) = at_map (file_at f.slots) (waiting f) n ∙ ap (over (file_at f.slots)) h.1.stands in
+      let there : at (files f) n ≡ Some (file_at f.slots k) = at_map (file_at f.slots) (waiting f) n ∙ ap (over (file_at f.slots)) h.1.stands in
       let same : g.0 ≡ file_at f.slots k = (let a = g.1.stands in cc) in
-      takes n k (subst (Hit (startable_file p now) (files f) n) same g.1) w (ap At w.here)
+      takes n k (subst (Hit (startable_file p now) (files f) n) same g.1) w (ap Some w.here)
       (subst (λ j. Seen f (cut (files f) n) k (started_slot now (slot_at f.slots k)) (taken_at now f n j)) (sym w.here)
       (seen_leaves f v k w.inn (started_slot now (slot_at f.slots k)) f.tois n h.1.stands)))
 

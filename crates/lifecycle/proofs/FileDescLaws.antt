@@ -1,6 +1,6 @@
 -- Laws of the object's record: what its fields say in the definition's words.
 use mathlib.Core.Path.{◌≡◌, refl, sym, ◌∙◌, ap}
-use mathlib.Core.Option.{none, some}
+use Rattle.std.specs.Prelude.{Option, None, Some}
 use native.Mathlib.Numerals.{add-one}
 use mathlib.Core.Bool.{Bool, true, false, not, ◌&&◌}
 use Prim.Native.Nat.{ℕ, suc, ◌+◌, ◌-◌, ◌≤◌, ◌<◌}
@@ -11,12 +11,12 @@ use Rattle.sizes.proofs.Tests.{Tested, pass, fail, tested}
 use Rattle.lifecycle.specs.Lifecycle.{repeats, is_last}
 use Rattle.lifecycle.specs.Lifecycle as Def
 use Rattle.lifecycle.specs.FileDesc.{time_of, target_of, plan_of, life_of, pace_said, carousel_named, target_named, started_life, done_life, published_life, reset_life, plan_named, with_carousel, with_target, no_pace, duration_of, pace_at, ticked_of}
-use Rattle.sizes.specs.Words.{when◌then◌else◌, maybe, given}
+use Rattle.sizes.specs.Words.{when◌then◌else◌, maybe, over, given}
 use Rattle.sizes.specs.Limits.{wide}
 use Rattle.lifecycle.specs.declared.filedesc.Pace.{Pace}
 use Rattle.lifecycle.specs.declared.filedesc.Time.{Time}
 use Rattle.lifecycle.specs.declared.filedesc.Carousel.{Carousel}
-use Rattle.lifecycle.specs.declared.filedesc.Carousel.TheVariants.{Never, Delay, Interval}
+use Rattle.lifecycle.specs.declared.filedesc.Carousel.TheVariants.{Delay, Interval}
 use Rattle.lifecycle.specs.declared.filedesc.Target.{Target}
 use Rattle.lifecycle.specs.declared.filedesc.Target.TheVariants.{AtOnce, Within, By}
 use Rattle.lifecycle.specs.declared.filedesc.Plan.{Plan}
@@ -24,7 +24,7 @@ use Rattle.lifecycle.specs.declared.filedesc.Life.{Life}
 
 -- the flag says whether there is a carousel
 repeats_flag : (r : Plan) → repeats (plan_of r) ≡ r.repeats
-repeats_flag r = elim r.repeats as (λ b. given (when b then some (when r.from_start then Def.Carousel.interval r.interval else Def.Carousel.delay r.interval) else none) ≡ b) [ true ↦ refl | false ↦ refl ]
+repeats_flag r = elim r.repeats as (λ b. given (when b then Some (when r.from_start then Def.Carousel.interval r.interval else Def.Carousel.delay r.interval) else None) ≡ b) [ true ↦ refl | false ↦ refl ]
 
 pub repeats_said : (r : Plan) → not (repeats (plan_of r)) ≡ not r.repeats
 repeats_said r = ap not (repeats_flag r)
@@ -78,7 +78,7 @@ and_comm false false = refl
 pub life_started : (r : Plan) (now : ℕ) (x : Life) → life_of (started_life r now x) ≡ Def.started (plan_of r) now (life_of x)
 unfolding started_life Def.started
 life_started r now x =
-    ap (λ b. record { published = x.published; count = when b then 0 else x.count; total = x.total; last_start = some now; last_end = time_of x.last_end; named_start = time_of x.named_start })
+    ap (λ b. record { published = x.published; count = when b then 0 else x.count; total = x.total; last_start = Some now; last_end = time_of x.last_end; named_start = time_of x.named_start })
     (and_comm r.repeats (eqb x.count r.most) ∙ ap (λ b. eqb x.count r.most && b) (sym (repeats_flag r)))
 
 pub life_done : (now : ℕ) (x : Life) → life_of (done_life now x) ≡ Def.finished now (life_of x)
@@ -91,25 +91,25 @@ life_published x = refl
 
 pub life_reset : (t : Time) (x : Life) → life_of (reset_life t x) ≡ Def.triggered (time_of t) (life_of x)
 unfolding reset_life Def.triggered
-life_reset t x = ap (λ f. record { published = x.published; count = x.count; total = x.total; last_start = none; last_end = none; named_start = f }) (start t.known)
+life_reset t x = ap (λ f. record { published = x.published; count = x.count; total = x.total; last_start = None; last_end = None; named_start = f }) (start t.known)
   where
-    start : (b : Bool) → time_of (when b then record { known = b; at = t.at } else x.named_start) ≡ maybe (time_of x.named_start) some (when b then some t.at else none)
+    start : (b : Bool) → time_of (when b then record { known = b; at = t.at } else x.named_start) ≡ maybe (time_of x.named_start) Some (when b then Some t.at else None)
     start true = refl
     start false = refl
 
 -- what is asked is what the inputs name
-pub plan_as_named : (most : ℕ) (c : Carousel) (t : Target) (stop : Bool)
-    → plan_of (plan_named most c t stop) ≡ record { most = most; carousel = carousel_named c; target = target_named t; stop_at_once = stop }
+pub plan_as_named : (most : ℕ) (c : Option Carousel) (t : Target) (stop : Bool)
+    → plan_of (plan_named most c t stop) ≡ record { most = most; carousel = over carousel_named c; target = target_named t; stop_at_once = stop }
 unfolding plan_named with_carousel with_target
-plan_as_named most Never AtOnce stop = refl
-plan_as_named most Never (Within d) stop = refl
-plan_as_named most Never (By d) stop = refl
-plan_as_named most (Delay i) AtOnce stop = refl
-plan_as_named most (Delay i) (Within d) stop = refl
-plan_as_named most (Delay i) (By d) stop = refl
-plan_as_named most (Interval i) AtOnce stop = refl
-plan_as_named most (Interval i) (Within d) stop = refl
-plan_as_named most (Interval i) (By d) stop = refl
+plan_as_named most None AtOnce stop = refl
+plan_as_named most None (Within d) stop = refl
+plan_as_named most None (By d) stop = refl
+plan_as_named most (Some (Delay i)) AtOnce stop = refl
+plan_as_named most (Some (Delay i)) (Within d) stop = refl
+plan_as_named most (Some (Delay i)) (By d) stop = refl
+plan_as_named most (Some (Interval i)) AtOnce stop = refl
+plan_as_named most (Some (Interval i)) (Within d) stop = refl
+plan_as_named most (Some (Interval i)) (By d) stop = refl
 
 -- the pace is the definition's
 pub pace_view : (r : Plan) (now l e : ℕ) → pace_said (pace_at r now l e) ≡ Def.pace_of (target_of r) now l e
@@ -122,11 +122,11 @@ pace_view r now l e = go (tested r.paced) (tested r.by_time)
     go (pass p) (pass b) = rw (p, b)
     go (pass p) (fail b) = rw (p, b)
 
-pub ticked_view : (p : Pace) → pace_said (ticked_of p) ≡ maybe none (λ c. some (Def.paced c)) (pace_said p)
+pub ticked_view : (p : Pace) → pace_said (ticked_of p) ≡ maybe None (λ c. Some (Def.paced c)) (pace_said p)
 unfolding ticked_of Def.paced
 ticked_view p = go (tested p.paced)
   where
     go : Tested p.paced
-        → pace_said (when p.paced then record { paced = true; due = when ltb (p.due + p.tick) wide then p.due + p.tick else p.due; tick = p.tick } else p) ≡ maybe none (λ c. some (Def.paced c)) (pace_said p)
+        → pace_said (when p.paced then record { paced = true; due = when ltb (p.due + p.tick) wide then p.due + p.tick else p.due; tick = p.tick } else p) ≡ maybe None (λ c. Some (Def.paced c)) (pace_said p)
     go (fail e) = rw e
     go (pass e) = rw e

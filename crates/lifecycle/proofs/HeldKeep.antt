@@ -1,7 +1,7 @@
 -- What holds of every held object, whatever its life, holds after each call.
 use mathlib.Core.Path.{◌≡◌, refl, sym, ◌∙◌, ap, subst}
 use mathlib.Core.Bool.{Bool, true, false, false≢true}
-use mathlib.Core.Option.{Option, none, some}
+use Rattle.std.specs.Prelude.{Option, None, Some}
 use mathlib.Core.List.{List, [], ◌∷◌, map}
 use Prim.Native.Nat.{ℕ, ◌+◌, ◌≤◌}
 use lib.Dec.{eqb}
@@ -18,21 +18,15 @@ use Rattle.lifecycle.specs.Parts.{past_store}
 use Rattle.lifecycle.specs.FileDesc.{with_life, reset_life}
 use Rattle.lifecycle.specs.Slots.{no_slot, slot_at, holds_byte, published_slot}
 use Rattle.lifecycle.specs.Announce.{fdt_plan_of, next_of}
-use Rattle.lifecycle.specs.FdtCalls.{sends, used, ValidFdt, with_slots, reserved_of, released_of, own_of, bad_part_of, new_slot, refusal, added_of, listed_place, removed_of, triggered_of, taken_of, done_of, publish_of, next_fdt_of, fdt_done_of}
+use Rattle.lifecycle.specs.FdtCalls.{Added, Touched, Taken, Published, sends, used, ValidFdt, with_slots, reserved_of, released_of, own_of, bad_part_of, new_slot, refusal, added_of, listed_place, removed_of, triggered_of, taken_of, done_of, publish_of, next_fdt_of, fdt_done_of}
 use Rattle.lifecycle.proofs.FdtMeans.{Seen, ListAdds, refused, admits, unknown, full, Removal, nobody, sent, waited, Takes, nothing, takes, Ends, idle, back, gone}
 use Rattle.lifecycle.specs.declared.parts.Part.{Part}
 use Rattle.lifecycle.specs.declared.filedesc.Time.{Time}
 use Rattle.lifecycle.specs.declared.filedesc.Life.{Life}
 use Rattle.lifecycle.specs.declared.filedesc.FileDesc.{FileDesc}
 use Rattle.lifecycle.specs.declared.slots.Slot.{Slot}
-use Rattle.lifecycle.specs.declared.announce.Draft.{Draft}
 use Rattle.lifecycle.specs.declared.fdt.Fdt.{Fdt}
 use Rattle.lifecycle.specs.declared.fdt.Request.{Request}
-use Rattle.lifecycle.specs.declared.fdt.Named.{Named}
-use Rattle.lifecycle.specs.declared.fdt.Added.{Added}
-use Rattle.lifecycle.specs.declared.fdt.Touched.{Touched}
-use Rattle.lifecycle.specs.declared.fdt.Taken.{Taken}
-use Rattle.lifecycle.specs.declared.fdt.Published.{Published}
 use Rattle.lifecycle.proofs.PartLaws.{lies_in}
 use Rattle.lifecycle.proofs.FdtFacts.{used_listed, used_sends, listed_at}
 use Rattle.lifecycle.proofs.FdtViews.{at_each, taken_view, done_view, published_at}
@@ -119,10 +113,10 @@ module _ (P : FileDesc → Type 0) (lives : (o : FileDesc) (x : Life) → P o �
   published_held now c = subst (λ (x : Published). EachHeld P x.fdt) (sym (publish_as c f now)) (by (publish_refusal_of c f))
     where
       by : (o : Option Refusal) → EachHeld P (published_by c f now o).fdt
-      by none = marked_held
-      by (some why) = h
+      by None = marked_held
+      by (Some why) = h
 
-  pub next_fdt_held : (now : ℕ) (draft : Draft) → EachHeld P (next_fdt_of now draft f).fdt
+  pub next_fdt_held : (now : ℕ) (draft : Option Part) → EachHeld P (next_fdt_of now draft f).fdt
   unfolding next_fdt_of
   next_fdt_held now draft = if_on (EachHeld P) (next_of (fdt_plan_of f.settings.from_start f.settings.interval) f.settings.validity now draft f.announcer).taken (λ e. marked_held) (λ e. h)
 
@@ -131,14 +125,14 @@ module _ (P : FileDesc → Type 0) (lives : (o : FileDesc) (x : Life) → P o �
   fdt_done_held now = h
 
   -- an object that is admitted was refused neither for its sizes nor for its part
-  module _ (q : Request) (named : Named) where
+  module _ (q : Request) (named : Option ℕ) where
     abbrev z : Sizes
     z = own_of q.own f.settings.sizes
 
     pub added_held : ValidFdt f → ((t : ℕ) → bad_blocks z q.part.size ≡ false → bad_part_of f q.part ≡ false → P (new_slot q z t).file) → EachHeld P (added_of f q named).fdt
     added_held v new = by (added_of f q named) (refusal_view f q named) (added_view f v q named)
       where
-        first_none : (n : Refusal) (b : Bool) {o : Option Refusal} → none ≡ (when b then some n else o) → (b ≡ false) × (none ≡ o)
+        first_none : (n : Refusal) (b : Bool) {o : Option Refusal} → None ≡ (when b then Some n else o) → (b ≡ false) × (None ≡ o)
         first_none n true e = absurd (none≢some e)
         first_none n false e = (refl, e)
 

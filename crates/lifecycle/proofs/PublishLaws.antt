@@ -1,31 +1,30 @@
 -- Laws of the FDT calls: what they answer, put together from their steps.
 use mathlib.Core.Path.{◌≡◌, refl, sym, ◌∙◌, ap, subst}
-use mathlib.Core.Bool.{Bool, true, false}
-use mathlib.Core.Option.{Option, none, some}
-use mathlib.Core.List.{[], map}
+use mathlib.Core.Bool.{Bool, true, false, ◌||◌}
+use Rattle.std.specs.Prelude.{Option, None, Some}
+use mathlib.Core.List.{[], ◌∷◌, map}
+use lib.Dec.{eqb, leb}
 use Prim.Native.Nat.{ℕ, ◌<◌, ◌≤◌}
 use borrow.Author.Tests.{lt-ltb}
-use Rattle.sizes.specs.Words.{when◌then◌else◌}
+use Rattle.sizes.specs.Words.{when◌then◌else◌, first_of}
 use Rattle.sizes.specs.Limits.{waiting_fdts, largest_fdt_id}
 use Rattle.sizes.specs.declared.refusal.Refusal.{Refusal}
+use Rattle.sizes.specs.declared.refusal.Refusal.TheVariants as Because
 use Rattle.sizes.specs.Allocator as Alloc
 use Rattle.sizes.specs.declared.toiallocator.ToiMaxLength.{ToiMaxLength}
 use Rattle.sizes.specs.declared.toiallocator.ToiAllocator.{ToiAllocator}
 use Rattle.sizes.proofs.AllocatorLaws.{valid_opening as valid-numbers}
 use Rattle.sizes.proofs.AllocatorViews.{opened_view}
-use Rattle.sizes.proofs.Tests.{if_on}
+use Rattle.sizes.proofs.Tests.{if_on, none≢some}
+use Rattle.lifecycle.specs.Setup.{bad_blocks}
 use Rattle.lifecycle.specs.Slots.{published_slot}
 use Rattle.lifecycle.specs.Announce as Ann
-use Rattle.lifecycle.specs.Announce.{ValidAnnouncer, fdt_plan_of, queued_of, published_of, next_of}
-use Rattle.lifecycle.specs.FdtCalls.{ValidFdt, with_slots, with_published, with_announcer, publish_of, next_fdt_of, fdt_done_of, opening_fdt}
+use Rattle.lifecycle.specs.Announce.{NextInstance, ValidAnnouncer, fdt_plan_of, queued_of, published_of, next_of, bad_fdt_of}
+use Rattle.lifecycle.specs.FdtCalls.{NextFdt, Published, ValidFdt, with_slots, with_published, with_announcer, draft_test_of, publish_of, next_fdt_of, fdt_done_of, opening_fdt}
 use Rattle.lifecycle.specs.declared.parts.Part.{Part}
 use Rattle.lifecycle.specs.declared.filedesc.Plan.{Plan}
 use Rattle.lifecycle.specs.declared.announce.Announcer.{Announcer}
-use Rattle.lifecycle.specs.declared.announce.Draft.{Draft}
-use Rattle.lifecycle.specs.declared.announce.NextInstance.{NextInstance}
 use Rattle.lifecycle.specs.declared.fdt.Fdt.{Fdt}
-use Rattle.lifecycle.specs.declared.fdt.NextFdt.{NextFdt}
-use Rattle.lifecycle.specs.declared.fdt.Published.{Published}
 use Rattle.lifecycle.specs.declared.fdt.Settings.{Settings}
 use Rattle.lifecycle.proofs.AnnounceLaws.{valid_queued, valid_next, valid_done, valid_opening}
 use Rattle.lifecycle.proofs.FdtKeeps.{publish_refusal_of, publishable, published_by, publish_as}
@@ -36,25 +35,55 @@ pub queued_by : (now : ℕ) (c : Part) (a : Announcer) → a.waiting < waiting_f
 unfolding published_of
 queued_by now c a h = rw (lt-ltb a.waiting waiting_fdts h)
 
-module _ (now : ℕ) (draft : Draft) (f : Fdt) (r : Plan) (n : NextInstance)
-    (planned : r ≡ fdt_plan_of f.settings.from_start f.settings.interval) (asked : n ≡ next_of r f.settings.validity now draft f.announcer) where
+-- a part that is no good as a draft is refused for the same reason; one that is good may still be empty, or find no room
+module _ (now : ℕ) (c : Part) (f : Fdt) where
+  abbrev said : Option Refusal → Published
+  said = published_by c f now
+
+  abbrev by_tests : Bool → Bool → Published
+  by_tests x y =
+      when x then said (Some Because.Sizes)
+      else when y || eqb c.size 0 then said (Some Because.Part)
+      else when leb waiting_fdts f.announcer.waiting then said (Some Because.Full)
+      else said None
+
+  pub publish_bad : (why : Refusal) → draft_test_of (Some c) f ≡ Some why → publish_of now c f ≡ said (Some why)
+  unfolding draft_test_of publish_of
+  publish_bad why = by (bad_blocks f.settings.sizes c.size) (bad_fdt_of f.settings.fdt_store c f.announcer)
+    where
+      by : (x y : Bool) → first_of ((Because.Sizes, x) ∷ (Because.Part, y) ∷ []) ≡ Some why → by_tests x y ≡ said (Some why)
+      by true y e = ap said e
+      by false true e = ap said e
+      by false false e = absurd (none≢some e)
+
+  pub publish_good : draft_test_of (Some c) f ≡ None
+      → publish_of now c f ≡ (when eqb c.size 0 then said (Some Because.Part) else when leb waiting_fdts f.announcer.waiting then said (Some Because.Full) else said None)
+  unfolding draft_test_of publish_of
+  publish_good = by (bad_blocks f.settings.sizes c.size) (bad_fdt_of f.settings.fdt_store c f.announcer)
+    where
+      by : (x y : Bool) → first_of ((Because.Sizes, x) ∷ (Because.Part, y) ∷ []) ≡ None → by_tests x y ≡ by_tests false false
+      by true y e = absurd (none≢some (sym e))
+      by false true e = absurd (none≢some (sym e))
+      by false false e = refl
+
+module _ (now : ℕ) (draft : Option Part) (f : Fdt) (r : Plan) (n : NextInstance)
+    (planned : r ≡ fdt_plan_of f.settings.from_start f.settings.interval) (asked : next_of r f.settings.validity now draft f.announcer ≡ n) where
   -- what the answer is for a next FDT
   abbrev told : NextInstance → NextFdt
   told m = record { taken = m.taken; starts = m.starts; fdt = when m.taken then with_published f m.announcer else with_announcer f m.announcer }
 
-  is_next : told n ≡ next_fdt_of now draft f
+  is_next : next_fdt_of now draft f ≡ told n
   unfolding next_fdt_of
-  is_next = ap told (asked ∙ ap (λ q. next_of q f.settings.validity now draft f.announcer) planned)
+  is_next = ap told (sym (ap (λ q. next_of q f.settings.validity now draft f.announcer) planned) ∙ asked)
 
-  as_flag : (b : Bool) → n.taken ≡ b
-      → record { taken = b; starts = n.starts; fdt = when b then with_published f n.announcer else with_announcer f n.announcer } ≡ told n
-  as_flag b e = ap (λ b. record { taken = b; starts = n.starts; fdt = when b then with_published f n.announcer else with_announcer f n.announcer }) (sym e)
+  by_flag : (b : Bool) → n.taken ≡ b → next_fdt_of now draft f ≡ record { taken = n.taken; starts = n.starts; fdt = when b then with_published f n.announcer else with_announcer f n.announcer }
+  by_flag b e = is_next ∙ ap (λ b. record { taken = n.taken; starts = n.starts; fdt = when b then with_published f n.announcer else with_announcer f n.announcer }) e
 
-  pub next_taken_by : n.taken ≡ true → record { taken = true; starts = n.starts; fdt = with_published f n.announcer } ≡ next_fdt_of now draft f
-  next_taken_by e = as_flag true e ∙ is_next
+  pub next_taken_by : n.taken ≡ true → next_fdt_of now draft f ≡ record { taken = n.taken; starts = n.starts; fdt = with_published f n.announcer }
+  next_taken_by = by_flag true
 
-  pub next_left_by : n.taken ≡ false → record { taken = false; starts = n.starts; fdt = with_announcer f n.announcer } ≡ next_fdt_of now draft f
-  next_left_by e = as_flag false e ∙ is_next
+  pub next_left_by : n.taken ≡ false → next_fdt_of now draft f ≡ record { taken = n.taken; starts = n.starts; fdt = with_announcer f n.announcer }
+  next_left_by = by_flag false
 
 -- ---- the list stays valid
 
@@ -80,10 +109,10 @@ pub valid_publish : (now : ℕ) (c : Part) (f : Fdt) → ValidFdt f → ValidFdt
 valid_publish now c f v = subst (λ (r : Published). ValidFdt r.fdt) (sym (publish_as c f now)) (by (publish_refusal_of c f) refl)
   where
     by : (o : Option Refusal) → publish_refusal_of c f ≡ o → ValidFdt (published_by c f now o).fdt
-    by (some why) e = v
-    by none e = valid_announced f (queued_of now c f.announcer) (valid_queued f.announcer v.fdts now c (publishable c f e).room) v
+    by (Some why) e = v
+    by None e = valid_announced f (queued_of now c f.announcer) (valid_queued f.announcer v.fdts now c (publishable c f e).room) v
 
-pub valid_next_fdt : (now : ℕ) (draft : Draft) (f : Fdt) → ValidFdt f → ValidFdt (next_fdt_of now draft f).fdt
+pub valid_next_fdt : (now : ℕ) (draft : Option Part) (f : Fdt) → ValidFdt f → ValidFdt (next_fdt_of now draft f).fdt
 unfolding next_fdt_of
 valid_next_fdt now draft f v =
     let r = fdt_plan_of f.settings.from_start f.settings.interval in

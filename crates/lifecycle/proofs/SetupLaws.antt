@@ -1,6 +1,6 @@
 -- What an accepted set-up tells, and when E, B or the block count is out of range.
 use mathlib.Core.Path.{◌≡◌, sym, ◌∙◌, ap}
-use mathlib.Core.Bool.{Bool, true, false, not, ◌&&◌, false≢true}
+use mathlib.Core.Bool.{Bool, true, false, not, ◌&&◌, and-true, false≢true}
 use Prim.Native.Nat.{ℕ, ◌≤◌}
 use native.Mathlib.Omega.{arith}
 use lib.Dec.{ltb, leb}
@@ -29,11 +29,6 @@ sizes_told z h =
       symbol = in_range 1 largest_symbol z.e (and_left (within 1 largest_symbol z.e) (within 1 largest_block z.b) h);
       block = in_range 1 largest_block z.b (and_right (within 1 largest_symbol z.e) (within 1 largest_block z.b) h);
     }
-
--- E and B in their ranges
-pub sizes_sound : (z : Sizes) → within 1 largest_symbol z.e ≡ true → within 1 largest_block z.b ≡ true → sound_sizes z ≡ true
-unfolding sound_sizes
-sizes_sound z e b = λ i. e i && b i
 
 -- ---- every number in its range
 
@@ -79,11 +74,6 @@ module _ (s : Setup) where
       go : Tested (sound s) → sound s ≡ false
       go (pass k) = absurd (false≢true (sym q ∙ f k))
       go (fail k) = k
-
-  -- where all pass, and the priorities are in their range, it goes by the first FDT id
-  pub by_id : Passed s → all (λ p. leb p largest_priority) s.priorities ≡ true → sound s ≡ leb s.first_id largest_fdt_id
-  unfolding sound
-  by_id q b = λ i. q.sessions i && b i && q.window i && q.sizes i && q.object_store i && q.fdt_store i && q.width i && leb s.first_id largest_fdt_id
 
   passed_id : sound s ≡ true → leb s.first_id largest_fdt_id ≡ true
   unfolding sound
@@ -145,3 +135,14 @@ blocks_told z l e =
       sizes = sizes_told z (not-false (sound_sizes z) (or_left (not (sound_sizes z)) (ltb most_blocks (blocks_of z l).blocks) e));
       blocks = ltb-false most_blocks (blocks_of z l).blocks (or_right (not (sound_sizes z)) (ltb most_blocks (blocks_of z l).blocks) e);
     }
+
+-- the tests of a set-up, where every priority is in its range
+pub sound_tests : (s : Setup) → all (λ p. leb p largest_priority) s.priorities ≡ true → sound s
+    ≡ (within 1 most_sessions (length s.priorities) && within 1 largest_window s.window && sound_sizes s.sizes
+    && leb s.object_store longest_store && leb s.fdt_store longest_store && has s.width widths && leb s.first_id largest_fdt_id)
+unfolding sound
+sound_tests s e =
+    let a = within 1 most_sessions (length s.priorities) in
+    let first : (a && all (λ p. leb p largest_priority) s.priorities) ≡ a = ap (λ b. a && b) e ∙ and-true a in
+    ap (λ b. b && within 1 largest_window s.window && sound_sizes s.sizes
+    && leb s.object_store longest_store && leb s.fdt_store longest_store && has s.width widths && leb s.first_id largest_fdt_id) first

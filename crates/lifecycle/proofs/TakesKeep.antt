@@ -10,12 +10,11 @@ use Rattle.sizes.proofs.Tests.{maybe_on}
 use Rattle.lifecycle.specs.Lifecycle.{finished, expired, may_start}
 use Rattle.lifecycle.specs.FileDesc.{plan_of, life_of, started_life, startable_file}
 use Rattle.lifecycle.specs.Slots.{slot_at, queue_startable}
-use Rattle.lifecycle.specs.FdtCalls.{waiting, sends, ValidFdt, started_slot, taken_at, taken_of, goes_back, done_of}
+use Rattle.lifecycle.specs.FdtCalls.{Taken, waiting, sends, ValidFdt, started_slot, taken_at, taken_of, goes_back, done_of}
 use Rattle.lifecycle.proofs.FdtMeans.{Ends, idle, back, gone}
 use Rattle.lifecycle.specs.declared.filedesc.FileDesc.{FileDesc}
 use Rattle.lifecycle.specs.declared.slots.Slot.{Slot}
 use Rattle.lifecycle.specs.declared.fdt.Fdt.{Fdt}
-use Rattle.lifecycle.specs.declared.fdt.Taken.{Taken}
 use Rattle.lifecycle.proofs.FileDescLaws.{life_done}
 use Rattle.lifecycle.proofs.FdtViews.{done_view}
 use Rattle.lifecycle.proofs.FdtKeeps.{SameNumbers}

@@ -1,6 +1,6 @@
 -- The FDT side as the code has it: what its records mean, and what each function makes of them.
 use Rattle.std.specs.Prelude.{◌≡◌, Bool, true, false, not, ◌&&◌, ◌||◌, List, map, ℕ, ◌+◌, ◌-◌, ◌≤◌, ◌<◌, eqb, ltb, length, get_or, take, set, replicate}
-use Rattle.std.proofs.Math.Option.{Option, none, some}
+use Rattle.std.specs.Prelude.{Option, None, Some}
 use Rattle.sizes.specs.Words.{when◌then◌else◌, maybe, given, any, shut}
 use Rattle.sizes.specs.Limits.{waiting_fdts, largest_fdt_id}
 use Rattle.lifecycle.specs.Parts.{shares, past_store}
@@ -12,9 +12,6 @@ use Rattle.lifecycle.specs.declared.parts.Part.{Part}
 use Rattle.lifecycle.specs.declared.filedesc.Plan.{Plan}
 use Rattle.lifecycle.specs.declared.announce.Instance.{Instance}
 use Rattle.lifecycle.specs.declared.announce.Announcer.{Announcer}
-use Rattle.lifecycle.specs.declared.announce.NextInstance.{NextInstance}
-use Rattle.lifecycle.specs.declared.announce.Draft.{Draft}
-use Rattle.lifecycle.specs.declared.announce.Draft.TheVariants.{Given, Missing}
 
 -- ---- what the records mean
 
@@ -31,17 +28,18 @@ state_of a = record {
   next_id = a.fdtid;
   last = time_of a.last_publish;
   waiting = map instance_of (waiting_of a);
-  current = when a.has_current then some (instance_of a.current) else none;
+  current = when a.has_current then Some (instance_of a.current) else None;
 }
 
--- a draft may be missing
-abbrev pub draft_given : Draft → Option Part
-draft_given (Given c) = some c
-draft_given Missing = none
+-- what asking for the next FDT comes to: was the draft taken, does the current one start now, and what is left behind
+pub record NextInstance : Type 0 where
+  pub taken : Bool
+  pub starts : Bool
+  pub announcer : Announcer
 
 -- what an answer says; the FDT that starts is the new current one
 unfoldable pub next_told : NextInstance → Def.Next
-next_told r = record { taken = r.taken; state = state_of r.announcer; starts = when r.starts then some (instance_of r.announcer.current) else none }
+next_told r = record { taken = r.taken; state = state_of r.announcer; starts = when r.starts then Some (instance_of r.announcer.current) else None }
 
 -- ---- what holds of it at any time
 
@@ -120,18 +118,18 @@ start_of r now taken a =
     else record { taken = taken; starts = false; announcer = a }
 
 -- republish: without a draft it fails, and nothing is queued
-unfoldable pub republished_of : ℕ → ℕ → Draft → Announcer → Announcer
-republished_of validity now draft a = when needs_new_of validity now a then maybe a (λ c. queued_of now c a) (draft_given draft) else a
+unfoldable pub republished_of : ℕ → ℕ → Option Part → Announcer → Announcer
+republished_of validity now draft a = when needs_new_of validity now a then maybe a (λ c. queued_of now c a) draft else a
 
 -- is an FDT being transferred
 unfoldable pub transferring_of : Announcer → Bool
 transferring_of a = a.has_current && a.current.life.transferring
 
 -- nothing new while the current one is transferring; else republish if needed, take the front, start it if it may
-unfoldable pub next_of : Plan → ℕ → ℕ → Draft → Announcer → NextInstance
+unfoldable pub next_of : Plan → ℕ → ℕ → Option Part → Announcer → NextInstance
 next_of r validity now draft a =
     when transferring_of a then record { taken = false; starts = false; announcer = a }
-    else start_of r now (needs_new_of validity now a && given (draft_given draft)) (front_of (republished_of validity now draft a))
+    else start_of r now (needs_new_of validity now a && given draft) (front_of (republished_of validity now draft a))
 
 -- the current one is done
 unfoldable pub current_done : ℕ → Announcer → Announcer

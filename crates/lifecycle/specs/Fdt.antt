@@ -1,6 +1,6 @@
 -- FDT: publishing, and which FDT is sent next (src/sender/fdt.rs). Objects and encoders have no part in it.
 use Rattle.std.specs.Prelude.{Bool, true, false, not, ◌&&◌, ◌||◌, List, [], ◌∷◌, ◌++◌, ℕ, ◌+◌, ◌-◌, ◌*◌, ◌%◌, eqb, ltb, leb, length}
-use Rattle.std.proofs.Math.Option.{Option, none, some}
+use Rattle.std.specs.Prelude.{Option, None, Some}
 use Rattle.sizes.specs.Words.{when◌then◌else◌, maybe, given, collect, any}
 use Rattle.sizes.specs.Limits.{largest_fdt_id}
 use Rattle.lifecycle.specs.Parts.{shares, past_store}
@@ -23,11 +23,11 @@ pub record FdtState : Type 0 where
 
 -- every FDT's plan: maximum 1, the set-up's carousel, no target
 abbrev pub fdt_plan : Setup → Plan
-fdt_plan s = record { most = 1; carousel = some s.carousel; target = Target.at_once; stop_at_once = false }
+fdt_plan s = record { most = 1; carousel = Some s.carousel; target = Target.at_once; stop_at_once = false }
 
 -- the parts that are held: those that wait, and the current one's
 unfoldable pub fdt_parts : FdtState → List Part
-fdt_parts f = collect (λ (i : Instance). some i.part) f.waiting ++ maybe [] (λ (i : Instance). i.part ∷ []) f.current
+fdt_parts f = collect (λ (i : Instance). Some i.part) f.waiting ++ maybe [] (λ (i : Instance). i.part ∷ []) f.current
 
 -- refusal 5 of an FDT's part: it ends past the store, or shares a byte with a held one
 unfoldable pub bad_fdt_part : Setup → FdtState → Part → Bool
@@ -41,9 +41,9 @@ id_after n = (n + 1) % (largest_fdt_id + 1)
 unfoldable pub queued : ℕ → Part → FdtState → FdtState
 queued now c f = record {
   next_id = id_after f.next_id;
-  last = some now;
+  last = Some now;
   current = f.current;
-  waiting = f.waiting ++ (record { id = f.next_id; part = c; life = unborn true none; transferring = false } ∷ []);
+  waiting = f.waiting ++ (record { id = f.next_id; part = c; life = unborn true None; transferring = false } ∷ []);
 }
 
 -- so many seconds, in nanoseconds
@@ -73,11 +73,11 @@ republished s now draft f = when needs_new s now f then maybe f (λ c. queued no
 
 -- the front of the queue, if any, becomes current
 unfoldable pub front_taken : FdtState → FdtState
-front_taken f = let w = f.waiting in elim w [ [] ↦ f | i ∷ rest ↦ record { next_id = f.next_id; last = f.last; waiting = rest; current = some i } ]
+front_taken f = let w = f.waiting in elim w [ [] ↦ f | i ∷ rest ↦ record { next_id = f.next_id; last = f.last; waiting = rest; current = Some i } ]
 
 -- the same, with another current
 unfoldable pub with_current : FdtState → Instance → FdtState
-with_current f i = record { next_id = f.next_id; last = f.last; waiting = f.waiting; current = some i }
+with_current f i = record { next_id = f.next_id; last = f.last; waiting = f.waiting; current = Some i }
 
 -- what asking for the next FDT comes to
 pub record Next : Type 0 where
@@ -88,15 +88,15 @@ pub record Next : Type 0 where
 -- start the current one if it may
 unfoldable pub start_current : Setup → ℕ → Bool → FdtState → Next
 start_current s now taken f =
-    let stays : Next = record { taken = taken; state = f; starts = none } in
+    let stays : Next = record { taken = taken; state = f; starts = None } in
     maybe stays (λ (i : Instance). when may_start (fdt_plan s) now i.life
-    then (let i' : Instance = record { id = i.id; part = i.part; life = started (fdt_plan s) now i.life; transferring = true } in record { taken = taken; state = with_current f i'; starts = some i' })
+    then (let i' : Instance = record { id = i.id; part = i.part; life = started (fdt_plan s) now i.life; transferring = true } in record { taken = taken; state = with_current f i'; starts = Some i' })
     else stays) f.current
 
 -- nothing new while the current one is transferring; else republish if needed, take the front, start it if it may
 unfoldable pub next_fdt : Setup → ℕ → Option Part → FdtState → Next
 next_fdt s now draft f =
-    when maybe false (λ (i : Instance). i.transferring) f.current then record { taken = false; state = f; starts = none }
+    when maybe false (λ (i : Instance). i.transferring) f.current then record { taken = false; state = f; starts = None }
     else start_current s now (takes_draft s now draft f) (front_taken (republished s now draft f))
 
 -- the current one is done; it has a carousel, so it stays current

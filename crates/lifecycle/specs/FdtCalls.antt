@@ -1,6 +1,6 @@
 -- What each call of fdt.rt makes of the records, and what every call keeps.
 use Rattle.std.specs.Prelude.{◌≡◌, Bool, true, false, not, ◌&&◌, ◌||◌, List, [], ◌∷◌, map, ℕ, ◌+◌, ◌-◌, ◌≤◌, eqb, ltb, leb, length, get_or, take, set, replicate}
-use Rattle.std.proofs.Math.Option.{Option, none, some}
+use Rattle.std.specs.Prelude.{Option, None, Some, Result, Ok, Err}
 use Rattle.sizes.specs.Words.{when◌then◌else◌, maybe, given, any, has, place, shut, collect, one_if, times, first_of}
 use Rattle.sizes.specs.Limits.{object_slots, toi_entries, waiting_fdts}
 use Rattle.sizes.specs.declared.refusal.Refusal.{Refusal}
@@ -17,32 +17,10 @@ use Rattle.lifecycle.specs.declared.parts.Part.{Part}
 use Rattle.lifecycle.specs.declared.filedesc.Time.{Time}
 use Rattle.lifecycle.specs.declared.filedesc.FileDesc.{FileDesc}
 use Rattle.lifecycle.specs.declared.slots.Slot.{Slot}
-use Rattle.sizes.specs.declared.place.Place.TheVariants.{At, Nothing}
 use Rattle.lifecycle.specs.declared.fdt.Fdt.{Fdt}
-use Rattle.lifecycle.specs.declared.fdt.Own.{Own}
-use Rattle.lifecycle.specs.declared.fdt.Own.TheVariants as OwnV
-use Rattle.lifecycle.specs.declared.fdt.Named.{Named}
-use Rattle.lifecycle.specs.declared.fdt.Named.TheVariants as NamedV
 use Rattle.lifecycle.specs.declared.fdt.Request.{Request}
-use Rattle.lifecycle.specs.declared.fdt.Admission.{Admission}
-use Rattle.lifecycle.specs.declared.fdt.Admission.TheVariants as AdmissionV
-use Rattle.lifecycle.specs.declared.fdt.Added.{Added}
-use Rattle.lifecycle.specs.declared.fdt.Reserved.{Reserved}
-use Rattle.lifecycle.specs.declared.fdt.Released.{Released}
-use Rattle.lifecycle.specs.declared.fdt.Touched.{Touched}
-use Rattle.lifecycle.specs.declared.fdt.Transfers.{Transfers}
-use Rattle.lifecycle.specs.declared.fdt.Transfers.TheVariants.{Total, NotListed}
-use Rattle.lifecycle.specs.declared.fdt.Taken.{Taken}
-use Rattle.lifecycle.specs.declared.fdt.Publication.{Publication}
-use Rattle.lifecycle.specs.declared.fdt.Publication.TheVariants as PublicationV
-use Rattle.lifecycle.specs.declared.fdt.Published.{Published}
-use Rattle.lifecycle.specs.declared.fdt.DraftTest.{DraftTest}
-use Rattle.lifecycle.specs.declared.fdt.DraftTest.TheVariants as DraftTestV
-use Rattle.lifecycle.specs.declared.fdt.NextFdt.{NextFdt}
 use Rattle.lifecycle.specs.declared.fdt.Settings.{Settings}
 use Rattle.lifecycle.specs.declared.announce.Announcer.{Announcer}
-use Rattle.lifecycle.specs.declared.announce.Draft.{Draft}
-use Rattle.lifecycle.specs.declared.announce.Draft.TheVariants as DraftV
 use Rattle.lifecycle.specs.Announce as Ann
 use Rattle.lifecycle.specs.Announce.{ValidAnnouncer, fdt_plan_of, queued_of, next_of, bad_fdt_of, new_announcer}
 
@@ -72,7 +50,7 @@ waits v = v.listed && not (sends v)
 
 -- the numbers of held objects
 abbrev pub used_tois : List Slot → List ℕ
-used_tois = collect (λ (v : Slot). when used v then some v.file.toi else none)
+used_tois = collect (λ (v : Slot). when used v then Some v.file.toi else None)
 
 -- as many hold it as should, and a free one is all zeros
 pub record Tidy (v : Slot) : Type 0 where
@@ -93,6 +71,42 @@ pub record ValidFdt (f : Fdt) : Type 0 where
   -- the numbers that objects hold are those of the held objects
   pub owned : (n : ℕ) → times n (Alloc.bound f.tois) ≡ times n (used_tois f.slots)
   pub fdts : ValidAnnouncer f.announcer
+
+-- ---- what a call answers, and the list after it
+
+-- the number of an admitted object, or why it is refused
+pub record Added : Type 0 where
+  pub answer : Result ℕ Refusal
+  pub fdt : Fdt
+
+pub record Reserved : Type 0 where
+  pub answer : Result ℕ Refusal
+  pub fdt : Fdt
+
+pub record Released : Type 0 where
+  pub answer : Result (Unit {0}) Refusal
+  pub fdt : Fdt
+
+-- yes or no
+pub record Touched : Type 0 where
+  pub yes : Bool
+  pub fdt : Fdt
+
+-- the slot that a session takes, if any
+pub record Taken : Type 0 where
+  pub answer : Option ℕ
+  pub fdt : Fdt
+
+-- a publish that was done, or why it was not
+pub record Published : Type 0 where
+  pub answer : Result (Unit {0}) Refusal
+  pub fdt : Fdt
+
+-- was the draft taken, and does the current FDT start now
+pub record NextFdt : Type 0 where
+  pub taken : Bool
+  pub starts : Bool
+  pub fdt : Fdt
 
 -- ---- changes
 
@@ -118,9 +132,9 @@ released_of t f = let r = Alloc.dropped_of true t f.tois in record { answer = r.
 
 -- ---- add
 
-unfoldable pub own_of : Own → Sizes → Sizes
-own_of (OwnV.Sizes y) z = y
-own_of OwnV.SetUp z = z
+unfoldable pub own_of : Option Sizes → Sizes → Sizes
+own_of (Some y) z = y
+own_of None z = z
 
 -- refusal 5: past the store, or a byte shared with a held object
 unfoldable pub bad_part_of : Fdt → Part → Bool
@@ -137,7 +151,7 @@ put_of f k toi q z = with_objects f f.tois
     (set f.queue f.queued k) (f.queued + 1)
 
 abbrev pub refuses : Fdt → Refusal → Added
-refuses f why = record { answer = AdmissionV.Refused why; fdt = f }
+refuses f why = record { answer = Err why; fdt = f }
 
 -- with the first free slot; refused (7) where there is none
 abbrev pub in_slot : Fdt → (ℕ → Added) → Added
@@ -147,22 +161,22 @@ in_slot f go = maybe (refuses f Because.Full) go (place is_free f.slots)
 unfoldable pub named_of : Fdt → Request → Sizes → ℕ → Added
 named_of f q z t =
     when has t (Alloc.loose f.tois)
-    then in_slot f (λ k. record { answer = AdmissionV.Toi t; fdt = put_of (with_tois f (Alloc.claimed_of t f.tois).allocator) k t q z })
+    then in_slot f (λ k. record { answer = Ok t; fdt = put_of (with_tois f (Alloc.claimed_of t f.tois).allocator) k t q z })
     else refuses f Because.NotLoose
 
 -- one that names none: there is to be a slot and a TOI entry (7)
 unfoldable pub fresh_of : Fdt → Request → Sizes → Added
 fresh_of f q z =
     in_slot f (λ k. when ltb f.tois.entered toi_entries
-    then record { answer = AdmissionV.Toi f.tois.next; fdt = put_of (with_tois f (Alloc.allocated_of false f.tois).allocator) k f.tois.next q z }
+    then record { answer = Ok f.tois.next; fdt = put_of (with_tois f (Alloc.allocated_of false f.tois).allocator) k f.tois.next q z }
     else refuses f Because.Full)
 
-unfoldable pub numbered_of : Fdt → Request → Sizes → Named → Added
-numbered_of f q z (NamedV.Toi t) = named_of f q z t
-numbered_of f q z NamedV.Anew = fresh_of f q z
+unfoldable pub numbered_of : Fdt → Request → Sizes → Option ℕ → Added
+numbered_of f q z (Some t) = named_of f q z t
+numbered_of f q z None = fresh_of f q z
 
 -- add, refusals 3 to 7 in their order
-unfoldable pub added_of : Fdt → Request → Named → Added
+unfoldable pub added_of : Fdt → Request → Option ℕ → Added
 added_of f q named =
     let z = own_of q.own f.settings.sizes in
     when f.complete then refuses f Because.Complete
@@ -178,12 +192,8 @@ listed_place t f = place (is_listed_as t) f.slots
 unfoldable pub is_added_of : ℕ → Fdt → Bool
 is_added_of t f = given (listed_place t f)
 
-abbrev pub transfers_said : Transfers → Option ℕ
-transfers_said (Total n) = some n
-transfers_said NotListed = none
-
 unfoldable pub transfers_of : ℕ → Fdt → Option ℕ
-transfers_of t f = maybe none (λ k. some (slot_at f.slots k).file.life.total) (listed_place t f)
+transfers_of t f = maybe None (λ k. Some (slot_at f.slots k).file.life.total) (listed_place t f)
 
 -- the slot in transfer, once its object is off the list
 abbrev pub unlisted_slot : Slot → Slot
@@ -226,7 +236,7 @@ taken_at now f n k = with_objects f f.tois
 
 -- the first in the queue that a session of priority p may start
 unfoldable pub taken_of : ℕ → ℕ → Fdt → Taken
-taken_of p now f = maybe (record { answer = Nothing; fdt = f }) (λ n. record { answer = At (get_or f.queue n 0); fdt = taken_at now f n (get_or f.queue n 0) }) (place (queue_startable f.slots p now) (waiting f))
+taken_of p now f = maybe (record { answer = None; fdt = f }) (λ n. record { answer = Some (get_or f.queue n 0); fdt = taken_at now f n (get_or f.queue n 0) }) (place (queue_startable f.slots p now) (waiting f))
 
 -- the object in a slot once its transfer has ended
 abbrev pub ended_file : ℕ → Slot → FileDesc
@@ -265,40 +275,35 @@ with_published f a = record { settings = f.settings; complete = f.complete; tois
 abbrev pub with_announcer : Fdt → Announcer → Fdt
 with_announcer f a = record { settings = f.settings; complete = f.complete; tois = f.tois; slots = f.slots; queue = f.queue; queued = f.queued; announcer = a }
 
--- what a publish says
-abbrev pub publication_said : Publication → Alloc.Said
-publication_said PublicationV.Done = Alloc.Said.done
-publication_said (PublicationV.Refused why) = Alloc.Said.refused why
-
 -- why an add is refused; none where the object was admitted
-abbrev pub refusal : Admission → Option Refusal
-refusal (AdmissionV.Toi t) = none
-refusal (AdmissionV.Refused why) = some why
+abbrev pub refusal : Result ℕ Refusal → Option Refusal
+refusal (Ok t) = None
+refusal (Err why) = Some why
 
 -- publish, refusals 4, 5 and 7 in their order
 unfoldable pub publish_of : ℕ → Part → Fdt → Published
 publish_of now c f =
-    when bad_blocks f.settings.sizes c.size then record { answer = PublicationV.Refused Because.Sizes; fdt = f }
-    else when bad_fdt_of f.settings.fdt_store c f.announcer || eqb c.size 0 then record { answer = PublicationV.Refused Because.Part; fdt = f }
-    else when leb waiting_fdts f.announcer.waiting then record { answer = PublicationV.Refused Because.Full; fdt = f }
-    else record { answer = PublicationV.Done; fdt = with_published f (queued_of now c f.announcer) }
+    when bad_blocks f.settings.sizes c.size then record { answer = Err Because.Sizes; fdt = f }
+    else when bad_fdt_of f.settings.fdt_store c f.announcer || eqb c.size 0 then record { answer = Err Because.Part; fdt = f }
+    else when leb waiting_fdts f.announcer.waiting then record { answer = Err Because.Full; fdt = f }
+    else record { answer = Ok tt; fdt = with_published f (queued_of now c f.announcer) }
 
 -- what the test of a draft says
-abbrev pub draft_said : DraftTest → Option Refusal
-draft_said DraftTestV.Good = none
-draft_said (DraftTestV.Refused why) = some why
+abbrev pub draft_said : Result (Unit {0}) Refusal → Option Refusal
+draft_said (Ok u) = None
+draft_said (Err why) = Some why
 
 -- a draft of length 0 is none, and is not looked at
-unfoldable pub real_draft : Draft → Draft
-real_draft (DraftV.Given c) = when eqb c.size 0 then DraftV.Missing else DraftV.Given c
-real_draft DraftV.Missing = DraftV.Missing
+unfoldable pub real_draft : Option Part → Option Part
+real_draft (Some c) = when eqb c.size 0 then None else Some c
+real_draft None = None
 
-unfoldable pub draft_test_of : Draft → Fdt → Option Refusal
-draft_test_of DraftV.Missing f = none
-draft_test_of (DraftV.Given c) f = first_of ((Because.Sizes, bad_blocks f.settings.sizes c.size) ∷ (Because.Part, bad_fdt_of f.settings.fdt_store c f.announcer) ∷ [])
+unfoldable pub draft_test_of : Option Part → Fdt → Option Refusal
+draft_test_of None f = None
+draft_test_of (Some c) f = first_of ((Because.Sizes, bad_blocks f.settings.sizes c.size) ∷ (Because.Part, bad_fdt_of f.settings.fdt_store c f.announcer) ∷ [])
 
 -- the next FDT; a draft that is taken is published, and so marks every listed object
-unfoldable pub next_fdt_of : ℕ → Draft → Fdt → NextFdt
+unfoldable pub next_fdt_of : ℕ → Option Part → Fdt → NextFdt
 next_fdt_of now draft f =
     let r = next_of (fdt_plan_of f.settings.from_start f.settings.interval) f.settings.validity now draft f.announcer in
     record { taken = r.taken; starts = r.starts; fdt = when r.taken then with_published f r.announcer else with_announcer f r.announcer }

@@ -1,6 +1,6 @@
 -- The object's record as the code has it: what it means, and what each function makes of it.
 use Rattle.std.specs.Prelude.{Bool, true, false, not, ◌&&◌, ℕ, ◌+◌, ◌-◌, min, eqb, ltb}
-use Rattle.std.proofs.Math.Option.{Option, none, some}
+use Rattle.std.specs.Prelude.{Option, None, Some}
 use Rattle.sizes.specs.Words.{when◌then◌else◌}
 use Rattle.sizes.specs.Limits.{wide, largest_count, largest_total}
 use Rattle.sizes.specs.declared.partition.Sizes.{Sizes}
@@ -9,7 +9,7 @@ use Rattle.lifecycle.specs.Lifecycle.{tick_of}
 use Rattle.lifecycle.specs.declared.parts.Part.{Part}
 use Rattle.lifecycle.specs.declared.filedesc.Time.{Time}
 use Rattle.lifecycle.specs.declared.filedesc.Carousel.{Carousel}
-use Rattle.lifecycle.specs.declared.filedesc.Carousel.TheVariants.{Never, Delay, Interval}
+use Rattle.lifecycle.specs.declared.filedesc.Carousel.TheVariants.{Delay, Interval}
 use Rattle.lifecycle.specs.declared.filedesc.Target.{Target}
 use Rattle.lifecycle.specs.declared.filedesc.Target.TheVariants.{AtOnce, Within, By}
 use Rattle.lifecycle.specs.declared.filedesc.Plan.{Plan}
@@ -21,10 +21,10 @@ use Rattle.lifecycle.specs.declared.filedesc.FileDesc.{FileDesc}
 
 -- a time that may be missing
 abbrev pub time_of : Time → Option ℕ
-time_of t = when t.known then some t.at else none
+time_of t = when t.known then Some t.at else None
 
 abbrev pub carousel_of : Plan → Option Def.Carousel
-carousel_of r = when r.repeats then some (when r.from_start then Def.Carousel.interval r.interval else Def.Carousel.delay r.interval) else none
+carousel_of r = when r.repeats then Some (when r.from_start then Def.Carousel.interval r.interval else Def.Carousel.delay r.interval) else None
 
 abbrev pub target_of : Plan → Def.Target
 target_of r = when r.paced then (when r.by_time then Def.Target.by r.target else Def.Target.for r.target) else Def.Target.at_once
@@ -44,13 +44,12 @@ life_of x = record {
 }
 
 abbrev pub pace_said : Pace → Option Def.Pace
-pace_said p = when p.paced then some record { due = p.due; tick = p.tick } else none
+pace_said p = when p.paced then Some record { due = p.due; tick = p.tick } else None
 
 -- what an input names
-abbrev pub carousel_named : Carousel → Option Def.Carousel
-carousel_named Never = none
-carousel_named (Delay d) = some (Def.Carousel.delay d)
-carousel_named (Interval d) = some (Def.Carousel.interval d)
+abbrev pub carousel_named : Carousel → Def.Carousel
+carousel_named (Delay d) = Def.Carousel.delay d
+carousel_named (Interval d) = Def.Carousel.interval d
 
 abbrev pub target_named : Target → Def.Target
 target_named AtOnce = Def.Target.at_once
@@ -131,17 +130,17 @@ repeating r start d = record { most = r.most; repeats = true; from_start = start
 abbrev pub aiming : Plan → Bool → ℕ → Plan
 aiming r by d = record { most = r.most; repeats = r.repeats; from_start = r.from_start; interval = r.interval; paced = true; by_time = by; target = d; stop_at_once = r.stop_at_once }
 
-unfoldable pub with_carousel : Plan → Carousel → Plan
-with_carousel r Never = r
-with_carousel r (Delay d) = repeating r r.from_start d
-with_carousel r (Interval d) = repeating r true d
+unfoldable pub with_carousel : Plan → Option Carousel → Plan
+with_carousel r None = r
+with_carousel r (Some (Delay d)) = repeating r r.from_start d
+with_carousel r (Some (Interval d)) = repeating r true d
 
 unfoldable pub with_target : Plan → Target → Plan
 with_target r AtOnce = r
 with_target r (Within d) = aiming r r.by_time d
 with_target r (By t) = aiming r true t
 
-unfoldable pub plan_named : ℕ → Carousel → Target → Bool → Plan
+unfoldable pub plan_named : ℕ → Option Carousel → Target → Bool → Plan
 plan_named most c t stop = with_target (with_carousel (plain_plan most stop) c) t
 
 -- a new object

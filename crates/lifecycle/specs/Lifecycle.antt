@@ -1,6 +1,6 @@
 -- Lifecycle of what is sent: when it may start, what a start and an end note, pacing (src/sender/filedesc.rs).
 use Rattle.std.specs.Prelude.{Bool, true, false, not, ◌&&◌, ◌||◌, ℕ, suc, ◌+◌, ◌-◌, ◌/◌, min, max, eqb, ltb, leb}
-use Rattle.std.proofs.Math.Option.{Option, none, some}
+use Rattle.std.specs.Prelude.{Option, None, Some}
 use Rattle.sizes.specs.Words.{when◌then◌else◌, maybe, ceil, given}
 use Rattle.sizes.specs.Limits.{wide, largest_count, largest_total}
 
@@ -33,7 +33,7 @@ pub record Life : Type 0 where
 
 -- nothing has happened yet
 abbrev pub unborn : Bool → Option ℕ → Life
-unborn p f = record { published = p; count = 0; total = 0; last_start = none; last_end = none; named_start = f }
+unborn p f = record { published = p; count = 0; total = 0; last_start = None; last_end = None; named_start = f }
 
 -- is there a carousel
 abbrev pub repeats : Plan → Bool
@@ -45,7 +45,7 @@ started p now x = record {
   published = x.published;
   count = when eqb x.count p.most && repeats p then 0 else x.count;
   total = x.total;
-  last_start = some now;
+  last_start = Some now;
   last_end = x.last_end;
   named_start = x.named_start;
 }
@@ -57,7 +57,7 @@ finished now x = record {
   count = min (suc x.count) largest_count;
   total = min (suc x.total) largest_total;
   last_start = x.last_start;
-  last_end = some now;
+  last_end = Some now;
   named_start = x.named_start;
 }
 
@@ -78,9 +78,9 @@ triggered f x = record {
   published = x.published;
   count = x.count;
   total = x.total;
-  last_start = none;
-  last_end = none;
-  named_start = maybe x.named_start some f;
+  last_start = None;
+  last_end = None;
+  named_start = maybe x.named_start Some f;
 }
 
 -- expired: maximum not above count, and no carousel
@@ -98,10 +98,10 @@ elapsed_over (interval d) now start end = ltb d (now - start)
 
 -- may a new round begin, by the carousel, the last end and the last start: where one of them is missing, it may; else if more than the interval has elapsed
 abbrev pub due_after : Option Carousel → ℕ → Option ℕ → Option ℕ → Bool
-due_after none now end start = true
-due_after (some r) now none start = true
-due_after (some r) now (some end) none = true
-due_after (some r) now (some end) (some start) = elapsed_over r now start end
+due_after None now end start = true
+due_after (Some r) now None start = true
+due_after (Some r) now (Some end) None = true
+due_after (Some r) now (Some end) (Some start) = elapsed_over r now start end
 
 unfoldable pub round_due : Plan → ℕ → Life → Bool
 round_due p now x = due_after p.carousel now x.last_end x.last_start
@@ -125,9 +125,9 @@ tick_of d l e = d / max 1 (ceil l e)
 
 -- the pace of a transfer that starts now, of length l and symbol length e: the first packet is due at once; a target time that is past leaves no duration
 abbrev pub pace_of : Target → ℕ → ℕ → ℕ → Option Pace
-pace_of at_once now l e = none
-pace_of (for d) now l e = some record { due = now; tick = tick_of d l e }
-pace_of (by t) now l e = some record { due = now; tick = tick_of (t - now) l e }
+pace_of at_once now l e = None
+pace_of (for d) now l e = Some record { due = now; tick = tick_of d l e }
+pace_of (by t) now l e = Some record { due = now; tick = tick_of (t - now) l e }
 
 -- each packet moves the due time by one tick, unless the sum passes 64 bits
 unfoldable pub paced : Pace → Pace

@@ -1,15 +1,14 @@
 // The FDT side: what waits to be announced, what is current, and when a new FDT is needed (src/sender/fdt.rs).
-ghost use Rattle.std.specs.Prelude.{◌≡◌, ◌<◌};
+ghost use Rattle.std.specs.Prelude.{◌≡◌, ◌&&◌, ◌<◌, Bool};
 ghost use Rattle.sizes.specs.Limits.{waiting_fdts};
-ghost use Rattle.sizes.specs.Words.{shut};
+ghost use Rattle.sizes.specs.Words.{given, any};
 ghost use Rattle.lifecycle.specs.Fdt.{runs_out};
-ghost use Rattle.lifecycle.specs.Announce.{no_instance, first_instance, started_instance, done_instance, fdt_plan_of, needs_new_of, queued_of, published_of, front_of, start_of, transferring_of, next_of, current_done, waits_of, shares_fdt_of, bad_fdt_of, new_announcer, ValidAnnouncer};
+ghost use Rattle.lifecycle.specs.Announce.{no_instance, first_instance, started_instance, done_instance, fdt_plan_of, needs_new_of, queued_of, republished_of, published_of, front_of, start_of, transferring_of, next_of, current_done, waits_of, waiting_of, held_of, shares_fdt_of, bad_fdt_of, new_announcer, ValidAnnouncer};
 
 use crate::filedesc::{Life, Plan, Time, elapsed};
 use crate::parts::{Part, ends_past, shares};
+use sizes::gap::close_gap;
 use sizes::limits::{LARGEST_FDT_ID, WAITING_FDTS};
-
-const LAST_WAITING: usize = WAITING_FDTS - 1;
 
 // How many ids there are.
 const FDT_IDS: u32 = LARGEST_FDT_ID + 1;
@@ -37,17 +36,9 @@ pub struct Announcer {
 
 // What asking for the next FDT comes to: was the draft taken, and does the current one start now?
 #[derive(Clone, Copy)]
-pub struct NextInstance {
+pub struct Next {
     pub taken: bool,
     pub starts: bool,
-    pub announcer: Announcer,
-}
-
-// A part to announce, or none.
-#[derive(Clone, Copy)]
-pub enum Draft {
-    Given(Part),
-    Missing,
 }
 
 // What is asked of every FDT: maximum 1, the set-up's carousel.
@@ -102,21 +93,6 @@ fn no_fdt() -> Instance
     }
 }
 
-// The queue without its front: the others move up, and zeros come in at the end.
-fn moved_up(queue: [Instance; WAITING_FDTS]) -> [Instance; WAITING_FDTS]
-    ensures { result ≡ shut no_instance queue 0 }
-{
-    let mut out = queue;
-    let mut j: usize = 0;
-    while j < LAST_WAITING {
-        let i = out[j + 1];
-        out[j] = i;
-        j += 1;
-    }
-    out[LAST_WAITING] = no_fdt();
-    out
-}
-
 impl Instance {
     // An FDT that is just being published.
     fn new(id: u32, part: Part) -> Instance
@@ -128,19 +104,17 @@ impl Instance {
     }
 
     // Its transfer starts.
-    fn started(mut self, plan: Plan, now: u64) -> Instance
-        ensures { result ≡ started_instance plan now self }
+    fn start(&mut self, plan: Plan, now: u64)
+        ensures { self.new ≡ started_instance plan now self.old }
     {
-        self.life = self.life.started(plan, now);
-        self
+        self.life.start(plan, now);
     }
 
     // Its transfer has ended.
-    fn done(mut self, now: u64) -> Instance
-        ensures { result ≡ done_instance now self }
+    fn end(&mut self, now: u64)
+        ensures { self.new ≡ done_instance now self.old }
     {
-        self.life = self.life.done(now);
-        self
+        self.life.end(now);
     }
 }
 
@@ -149,191 +123,157 @@ impl Announcer {
     pub fn new(first_id: u32) -> Announcer
         ensures { result ≡ new_announcer first_id }
     {
-        let none = no_fdt();
         Announcer {
             fdtid: first_id,
             last_publish: Time::none(),
-            queue: [none; WAITING_FDTS],
+            queue: [no_fdt(); WAITING_FDTS],
             waiting: 0,
             has_current: false,
-            current: none,
+            current: no_fdt(),
         }
     }
 
     // Is a new FDT needed?
-    pub fn needs_new(self, validity: u64, now: u64) -> bool
-        ensures { result ≡ needs_new_of validity now self }
+    pub fn needs_new(&self, validity: u64, at: u64) -> bool
+        ensures { result ≡ needs_new_of validity at self.now }
     {
         if self.waiting != 0 {
             return false;
         }
-        if !self.has_current {
+        if !self.has_current || !self.last_publish.known {
             return true;
         }
-        if !self.last_publish.known {
-            return true;
-        }
-        will_expire(validity, elapsed(now, self.last_publish.at))
+        will_expire(validity, elapsed(at, self.last_publish.at))
     }
 
     // The part waits under the current id, and the id moves on.
-    fn with_published(mut self, now: u64, part: Part) -> Announcer
-        requires { ValidAnnouncer self × (self.waiting < waiting_fdts) }
-        ensures { result ≡ queued_of now part self }
+    fn queue_up(&mut self, now: u64, part: Part)
+        requires { ValidAnnouncer self.old × (self.old.waiting < waiting_fdts) }
+        ensures { self.new ≡ queued_of now part self.old }
     {
-        let at = self.waiting;
-        let mut queue = self.queue;
-        queue[at] = Instance::new(self.fdtid, part);
-        self.queue = queue;
-        self.waiting = at + 1;
+        self.queue[self.waiting] = Instance::new(self.fdtid, part);
+        self.waiting += 1;
         self.fdtid = (self.fdtid + 1) % FDT_IDS;
-        self.last_publish.known = true;
-        self.last_publish.at = now;
-        self
+        self.last_publish = Time::at(now);
     }
 
     // The part waits under the current id; where the queue is full, nothing changes.
-    pub fn published(self, now: u64, part: Part) -> Announcer
-        requires { ValidAnnouncer self }
-        ensures { result ≡ published_of now part self }
+    pub fn publish(&mut self, now: u64, part: Part)
+        requires { ValidAnnouncer self.old }
+        ensures { self.new ≡ published_of now part self.old }
     {
-        if WAITING_FDTS <= self.waiting {
-            return self;
+        if self.waiting < WAITING_FDTS {
+            self.queue_up(now, part);
         }
-        self.with_published(now, part)
     }
 
     // The front of the queue, if any, becomes current.
-    fn with_front(mut self) -> Announcer
-        ensures { result ≡ front_of self }
+    fn take_front(&mut self)
+        ensures { self.new ≡ front_of self.old }
     {
         if self.waiting == 0 {
-            return self;
+            return;
         }
-        let held = self.queue;
-        let current = held[0];
-        self.current = current;
+        self.current = self.queue[0];
         self.has_current = true;
-        let queue = moved_up(held);
-        self.queue = queue;
+        close_gap(&mut self.queue, 0, no_fdt());
         self.waiting -= 1;
-        self
     }
 
     // The current one starts if it may.
-    fn with_start(mut self, plan: Plan, now: u64, taken: bool) -> NextInstance
-        ensures { result ≡ start_of plan now taken self }
+    fn start_current(&mut self, plan: Plan, now: u64) -> bool
+        ensures { (taken : Bool) → start_of plan now taken self.old ≡ record { taken = taken; starts = result; announcer = self.new } }
     {
-        if !self.has_current {
-            return NextInstance {
-                taken,
-                starts: false,
-                announcer: self,
-            };
+        if !self.has_current || !plan.may_start_now(self.current.life, now) {
+            return false;
         }
-        if !plan.may_start_now(self.current.life, now) {
-            return NextInstance {
-                taken,
-                starts: false,
-                announcer: self,
-            };
-        }
-        self.current = self.current.started(plan, now);
-        NextInstance {
-            taken,
-            starts: true,
-            announcer: self,
-        }
+        self.current.start(plan, now);
+        true
     }
 
     // Is an FDT being transferred?
-    fn is_transferring(self) -> bool
-        ensures { result ≡ transferring_of self }
+    fn is_transferring(&self) -> bool
+        ensures { result ≡ transferring_of self.now }
     {
-        if !self.has_current {
+        self.has_current && self.current.life.transferring
+    }
+
+    // Queues the draft, if a new FDT is needed and there is one, and answers whether.
+    fn republish(&mut self, validity: u64, now: u64, draft: Option<Part>) -> bool
+        requires { ValidAnnouncer self.old }
+        ensures taken { result ≡ (needs_new_of validity now self.old && given draft) }
+        ensures left { self.new ≡ republished_of validity now draft self.old }
+    {
+        if !self.needs_new(validity, now) {
             return false;
         }
-        self.current.life.transferring
+        let Some(part) = draft else {
+            return false;
+        };
+        self.queue_up(now, part);
+        true
     }
 
     // The next FDT: nothing new while the current one is transferring; else republish if needed, take the front, start it if it may.
     pub fn get_next_fdt_transfer(
-        mut self,
+        &mut self,
         plan: Plan,
         validity: u64,
         now: u64,
-        draft: Draft,
-    ) -> NextInstance
-        requires { ValidAnnouncer self }
-        ensures { result ≡ next_of plan validity now draft self }
+        draft: Option<Part>,
+    ) -> Next
+        requires { ValidAnnouncer self.old }
+        ensures { next_of plan validity now draft self.old ≡ record { taken = result.taken; starts = result.starts; announcer = self.new } }
     {
         if self.is_transferring() {
-            return NextInstance {
+            return Next {
                 taken: false,
                 starts: false,
-                announcer: self,
             };
         }
-        if !self.needs_new(validity, now) {
-            self = self.with_front();
-            return self.with_start(plan, now, false);
-        }
-        let Draft::Given(part) = draft else {
-            self = self.with_front();
-            return self.with_start(plan, now, false);
-        };
-        self = self.with_published(now, part);
-        self = self.with_front();
-        self.with_start(plan, now, true)
+        let taken = self.republish(validity, now, draft);
+        self.take_front();
+        let starts = self.start_current(plan, now);
+        Next { taken, starts }
     }
 
     // The current one is done. It has a carousel, so it stays current.
-    pub fn fdt_transfer_done(mut self, now: u64) -> Announcer
-        ensures { result ≡ current_done now self }
+    pub fn fdt_transfer_done(&mut self, now: u64)
+        ensures { self.new ≡ current_done now self.old }
     {
-        if !self.has_current {
-            return self;
+        if self.has_current {
+            self.current.end(now);
         }
-        self.current = self.current.done(now);
-        self
     }
 
     // Does an FDT wait?
-    pub fn need_transfer_fdt(self) -> bool
-        ensures { result ≡ waits_of self }
+    pub fn need_transfer_fdt(&self) -> bool
+        ensures { result ≡ waits_of self.now }
     {
         self.waiting != 0
     }
 
-    // Does a part share a byte with that of an FDT that waits, or of the current one?
-    pub fn shares_fdt(self, c: Part) -> bool
-        requires { ValidAnnouncer self }
-        ensures { result ≡ shares_fdt_of c self }
+    // Does a part share a byte with that of an FDT that waits?
+    fn shares_waiting(&self, c: Part) -> bool
+        requires { ValidAnnouncer self.now }
+        ensures { result ≡ any (held_of c) (waiting_of self.now) }
     {
-        let n = self.waiting;
-        let queue = self.queue;
-        let mut j: usize = 0;
-        while j < n {
-            let i = queue[j];
-            if shares(c, i.part) {
-                return true;
-            }
-            j += 1;
-        }
-        if !self.has_current {
-            return false;
-        }
-        shares(c, self.current.part)
+        self.queue[..self.waiting].iter().any(|i| shares(c, i.part))
+    }
+
+    // Does a part share a byte with that of an FDT that waits, or of the current one?
+    pub fn shares_fdt(&self, c: Part) -> bool
+        requires { ValidAnnouncer self.now }
+        ensures { result ≡ shares_fdt_of c self.now }
+    {
+        self.shares_waiting(c) || self.has_current && shares(c, self.current.part)
     }
 
     // Is a part no good for an FDT: it ends past the store, or shares a byte with a held one?
-    pub fn bad_fdt_part(self, store: u64, c: Part) -> bool
-        requires { ValidAnnouncer self }
-        ensures { result ≡ bad_fdt_of store c self }
+    pub fn bad_fdt_part(&self, store: u64, c: Part) -> bool
+        requires { ValidAnnouncer self.now }
+        ensures { result ≡ bad_fdt_of store c self.now }
     {
-        if ends_past(store, c) {
-            return true;
-        }
-        self.shares_fdt(c)
+        ends_past(store, c) || self.shares_fdt(c)
     }
 }

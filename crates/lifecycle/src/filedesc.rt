@@ -1,12 +1,10 @@
 // One object's life: when it may start, what a start and an end note, pacing (src/sender/filedesc.rs).
-ghost use Rattle.std.specs.Prelude.{◌≡◌, ◌+◌, ◌-◌, ◌<◌, min, max, ltb, false};
+ghost use Rattle.std.specs.Prelude.{◌≡◌, ◌-◌, ltb, false};
 ghost use Rattle.sizes.specs.Words.{maybe};
-ghost use Rattle.sizes.specs.Limits.{largest_count, largest_total};
 ghost use Rattle.lifecycle.specs.Lifecycle.{expired, is_last, may_start, may_stop, too_early, round_due};
-ghost use Rattle.lifecycle.specs.FileDesc.{time_of, plan_of, life_of, pace_said, no_time, no_pace, unborn_of, with_life, started_life, done_life, published_life, reset_life, plan_named, with_carousel, with_target, pace_at, ticked_of, file_new, startable_file};
+ghost use Rattle.lifecycle.specs.FileDesc.{time_of, plan_of, life_of, pace_said, no_time, time_at, no_pace, unborn_of, with_life, started_life, done_life, published_life, reset_life, plan_named, with_carousel, with_target, pace_at, ticked_of, file_new, startable_file};
 
 use crate::parts::Part;
-use sizes::limits::{LARGEST_COUNT, LARGEST_TOTAL};
 use sizes::partition::{Sizes, div_ceil};
 
 // A time that may be missing.
@@ -17,10 +15,9 @@ pub struct Time {
     pub at: u64,
 }
 
-// Sent again: never, a delay after the last end, an interval after the last start.
+// Sent again: a delay after the last end, or an interval after the last start.
 #[derive(Clone, Copy)]
 pub enum Carousel {
-    Never,
     Delay(u64),
     Interval(u64),
 }
@@ -91,49 +88,30 @@ impl Time {
             at: 0,
         }
     }
+
+    // This time.
+    pub fn at(n: u64) -> Time
+        ensures { result ≡ time_at n }
+    {
+        Time { known: true, at: n }
+    }
 }
 
 // How much time has passed since; a clock behind counts as none.
 pub fn elapsed(now: u64, since: u64) -> u64
     ensures { result ≡ now - since }
 {
-    if since < now { now - since } else { 0 }
+    now.saturating_sub(since)
 }
 
 // Is it before the time, if there is one?
 fn is_before(now: u64, t: Time) -> bool
     ensures { result ≡ maybe false (λ at. ltb now at) (time_of t) }
 {
-    if !t.known {
-        return false;
-    }
-    now < t.at
+    t.known && now < t.at
 }
 
 impl Plan {
-    // Is the maximum of transfers reached, with no carousel?
-    fn is_expired(self, x: Life) -> bool
-        ensures { result ≡ expired (plan_of self) (life_of x) }
-    {
-        if x.count < self.most {
-            return false;
-        }
-        !self.repeats
-    }
-
-    // Is the transfer under way the last one?
-    fn is_last_transfer(self, x: Life) -> bool
-        ensures { result ≡ is_last (plan_of self) (life_of x) }
-    {
-        if self.repeats {
-            return false;
-        }
-        if self.most == 0 {
-            return false;
-        }
-        self.most - 1 == x.count
-    }
-
     // May a new round begin?
     fn is_round_due(self, x: Life, now: u64) -> bool
         ensures { result ≡ round_due (plan_of self) now (life_of x) }
@@ -173,7 +151,7 @@ impl Plan {
 
 impl Plan {
     // What is asked, put together from its parts.
-    pub fn new(most: u32, carousel: Carousel, target: Target, stop_at_once: bool) -> Plan
+    pub fn new(most: u32, carousel: Option<Carousel>, target: Target, stop_at_once: bool) -> Plan
         ensures { result ≡ plan_named most carousel target stop_at_once }
     {
         let plain = Plan {
@@ -189,16 +167,16 @@ impl Plan {
         plain.with_carousel(carousel).with_target(target)
     }
 
-    fn with_carousel(mut self, c: Carousel) -> Plan
+    fn with_carousel(mut self, c: Option<Carousel>) -> Plan
         ensures { result ≡ with_carousel self c }
     {
         match c {
-            Carousel::Never => {}
-            Carousel::Delay(d) => {
+            None => {}
+            Some(Carousel::Delay(d)) => {
                 self.repeats = true;
                 self.interval = d;
             }
-            Carousel::Interval(d) => {
+            Some(Carousel::Interval(d)) => {
                 self.repeats = true;
                 self.from_start = true;
                 self.interval = d;
@@ -225,16 +203,6 @@ impl Plan {
         self
     }
 
-    // May a transfer be cut short: allowed at once, or sent before?
-    fn may_be_stopped(self, x: Life) -> bool
-        ensures { result ≡ may_stop (plan_of self) (life_of x) }
-    {
-        if self.stop_at_once {
-            return true;
-        }
-        0 < x.total
-    }
-
     // The pace of a transfer of l bytes in symbols of e that starts now: the first packet is due at once.
     fn pace(self, now: u64, l: u64, e: u64) -> Pace
         ensures { result ≡ pace_at self now l e }
@@ -242,7 +210,7 @@ impl Plan {
         if !self.paced {
             return Pace::none();
         }
-        let packets = at_least_one(div_ceil(l, e));
+        let packets = div_ceil(l, e).max(1);
         if self.by_time {
             return Pace {
                 paced: true,
@@ -256,12 +224,6 @@ impl Plan {
             tick: self.target / packets,
         }
     }
-}
-
-fn at_least_one(n: u64) -> u64
-    ensures { result ≡ max 1 n }
-{
-    if n == 0 { 1 } else { n }
 }
 
 impl Pace {
@@ -296,10 +258,7 @@ impl Pace {
     pub fn is_early(self, now: u64) -> bool
         ensures { result ≡ too_early now (pace_said self) }
     {
-        if !self.paced {
-            return false;
-        }
-        now < self.due
+        self.paced && now < self.due
     }
 }
 
@@ -326,75 +285,73 @@ impl FileDesc {
     }
 
     // A transfer starts.
-    pub fn transfer_started(mut self, now: u64) -> FileDesc
-        ensures { result ≡ with_life self (started_life self.plan now self.life) }
+    pub fn transfer_started(&mut self, now: u64)
+        ensures { self.new ≡ with_life self.old (started_life self.old.plan now self.old.life) }
     {
-        self.life = self.life.started(self.plan, now);
-        self
+        self.life.start(self.plan, now);
     }
 
     // A transfer has ended.
-    pub fn transfer_done(mut self, now: u64) -> FileDesc
-        ensures { result ≡ with_life self (done_life now self.life) }
+    pub fn transfer_done(&mut self, now: u64)
+        ensures { self.new ≡ with_life self.old (done_life now self.old.life) }
     {
-        self.life = self.life.done(now);
-        self
+        self.life.end(now);
     }
 
-    pub fn set_published(mut self) -> FileDesc
-        ensures { result ≡ with_life self (published_life self.life) }
+    pub fn set_published(&mut self)
+        ensures { self.new ≡ with_life self.old (published_life self.old.life) }
     {
         self.life.published = true;
-        self
     }
 
     // Both last times are forgotten, and the named start is set if there is one.
-    pub fn reset_last_transfer(mut self, start: Time) -> FileDesc
-        ensures { result ≡ with_life self (reset_life start self.life) }
+    pub fn reset_last_transfer(&mut self, start: Time)
+        ensures { self.new ≡ with_life self.old (reset_life start self.old.life) }
     {
-        self.life = self.life.reset(start);
-        self
+        self.life.reset(start);
     }
 
     // Is the maximum of transfers reached, with no carousel?
-    pub fn is_expired(self) -> bool
-        ensures { result ≡ expired (plan_of self.plan) (life_of self.life) }
+    pub fn is_expired(&self) -> bool
+        ensures { result ≡ expired (plan_of self.now.plan) (life_of self.now.life) }
     {
-        self.plan.is_expired(self.life)
+        self.plan.most <= self.life.count && !self.plan.repeats
     }
 
     // Is the transfer under way the last one?
-    pub fn is_last_transfer(self) -> bool
-        ensures { result ≡ is_last (plan_of self.plan) (life_of self.life) }
+    pub fn is_last_transfer(&self) -> bool
+        ensures { result ≡ is_last (plan_of self.now.plan) (life_of self.now.life) }
     {
-        self.plan.is_last_transfer(self.life)
+        if self.plan.repeats {
+            return false;
+        }
+        if self.plan.most == 0 {
+            return false;
+        }
+        self.plan.most - 1 == self.life.count
     }
 
     // May a session of this priority start it now?
-    pub fn should_transfer_now(self, priority: u32, now: u64) -> bool
-        ensures { result ≡ startable_file priority now self }
+    pub fn should_transfer_now(&self, priority: u32, at: u64) -> bool
+        ensures { result ≡ startable_file priority at self.now }
     {
-        if self.priority != priority {
-            return false;
-        }
-        if self.life.transferring {
-            return false;
-        }
-        self.plan.may_start_now(self.life, now)
+        self.priority == priority
+            && !self.life.transferring
+            && self.plan.may_start_now(self.life, at)
     }
 
-    // May its transfer be cut short?
-    pub fn can_transfer_be_stopped(self) -> bool
-        ensures { result ≡ may_stop (plan_of self.plan) (life_of self.life) }
+    // May its transfer be cut short: allowed at once, or sent before?
+    pub fn can_transfer_be_stopped(&self) -> bool
+        ensures { result ≡ may_stop (plan_of self.now.plan) (life_of self.now.life) }
     {
-        self.plan.may_be_stopped(self.life)
+        self.plan.stop_at_once || 0 < self.life.total
     }
 
     // The pace of its next transfer, which starts now.
-    pub fn pace_from(self, now: u64) -> Pace
-        ensures { result ≡ pace_at self.plan now self.part.size self.sizes.e }
+    pub fn pace_from(&self, at: u64) -> Pace
+        ensures { result ≡ pace_at self.now.plan at self.now.part.size self.now.sizes.e }
     {
-        self.plan.pace(now, self.part.size, self.sizes.e)
+        self.plan.pace(at, self.part.size, self.sizes.e)
     }
 }
 
@@ -403,70 +360,46 @@ impl Life {
     pub fn new(named_start: Time) -> Life
         ensures { result ≡ unborn_of named_start }
     {
-        let none = Time::none();
         Life {
             published: false,
             transferring: false,
             count: 0,
             total: 0,
-            last_start: none,
-            last_end: none,
+            last_start: Time::none(),
+            last_end: Time::none(),
             named_start,
         }
     }
 
     // A transfer starts.
-    pub fn started(mut self, r: Plan, now: u64) -> Life
-        ensures { result ≡ started_life r now self }
+    pub fn start(&mut self, r: Plan, now: u64)
+        ensures { self.new ≡ started_life r now self.old }
     {
         self.transferring = true;
-        self.last_start.known = true;
-        self.last_start.at = now;
-        if !r.repeats {
-            return self;
-        }
-        if self.count == r.most {
+        self.last_start = Time::at(now);
+        if r.repeats && self.count == r.most {
             self.count = 0;
         }
-        self
     }
 
     // A transfer has ended. The counts stop at their largest numbers.
-    pub fn done(mut self, now: u64) -> Life
-        ensures { result ≡ done_life now self }
+    pub fn end(&mut self, now: u64)
+        ensures { self.new ≡ done_life now self.old }
     {
         self.transferring = false;
-        self.count = up32(self.count);
-        self.total = up64(self.total);
-        self.last_end.known = true;
-        self.last_end.at = now;
-        self
+        self.count = self.count.saturating_add(1);
+        self.total = self.total.saturating_add(1);
+        self.last_end = Time::at(now);
     }
 
     // Both last times are forgotten, and the named start is set if there is one.
-    fn reset(mut self, start: Time) -> Life
-        ensures { result ≡ reset_life start self }
+    fn reset(&mut self, start: Time)
+        ensures { self.new ≡ reset_life start self.old }
     {
-        let none = Time::none();
-        self.last_start = none;
-        self.last_end = none;
+        self.last_start = Time::none();
+        self.last_end = Time::none();
         if start.known {
             self.named_start = start;
         }
-        self
     }
-}
-
-// One more, up to the largest count.
-fn up32(n: u32) -> u32
-    ensures { result ≡ min (n + 1) largest_count }
-{
-    if n < LARGEST_COUNT { n + 1 } else { n }
-}
-
-// One more, up to the largest total.
-fn up64(n: u64) -> u64
-    ensures { result ≡ min (n + 1) largest_total }
-{
-    if n < LARGEST_TOTAL { n + 1 } else { n }
 }

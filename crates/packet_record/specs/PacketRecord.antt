@@ -1,10 +1,7 @@
 -- What a record says of a packet.
-use Rattle.std.proofs.Math.Option.{Option, none, some}
 use Rattle.sizes.specs.Words.{given, maybe}
 use Rattle.definition.specs.FdtSession.{Packet}
 use Rattle.wire.specs.declared.record.Record.{Record}
-use Rattle.packet_record.specs.declared.PacketRecord.{PacketRecord}
-use Rattle.packet_record.specs.declared.PacketRecord.TheVariants.{Fields, NoPacket}
 
 -- the FDT flag stands for the id that an FDT's packet has; the payload is told by its length
 abbrev pub record_of : Packet → Record
@@ -19,8 +16,3 @@ record_of p = record {
   total = p.symbol.transfer_length;
   symbols = p.symbol.symbols;
 }
-
--- what the answer says
-abbrev pub record_said : PacketRecord → Option Record
-record_said (Fields r) = some r
-record_said NoPacket = none

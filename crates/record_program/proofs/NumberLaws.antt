@@ -2,18 +2,19 @@
 use mathlib.Core.Path.{◌≡◌, refl, ◌∙◌, ap}
 use mathlib.Core.Bool.{Bool, true, false, ◌&&◌}
 use mathlib.Core.List.{List}
-use mathlib.Core.Logic.{⊎_elim}
 use Prim.Native.Nat.{ℕ, ◌^◌, ◌<◌, ◌≤◌}
-use native.Mathlib.Omega.{arith}
-use borrow.Author.Tests.{lt-ltb, le-leb, leb-true, ltb-true}
-use lib.Dec.{leb, ltb}
+use borrow.Author.Tests.{leb-true, ltb-true}
+use lib.Dec.{eqb, leb, ltb}
 use lib.ListN.{length, get_or}
-use Rattle.sizes.specs.Words.{when◌then◌else◌}
-use Rattle.text.proofs.Lists.{bool_cases, both}
-use Rattle.wire.specs.Record.{record_size, good, writable, done, writing_said, write_answer, RecordWrites}
+use Rattle.sizes.specs.Words.{when◌then◌else◌, one_if}
+use Rattle.text.proofs.Lists.{both}
+use Rattle.std.specs.Prelude.{Result, Ok, Err}
+use Rattle.std.specs.Result.{is_ok}
+use Rattle.sizes.specs.declared.refusal.Refusal.{Refusal}
+use Rattle.sizes.specs.declared.refusal.Refusal.TheVariants as Because
+use Rattle.wire.specs.Record.{record_size, good, writable, done, refused, with_values, writing_said, write_answer, RecordWrites}
 use Rattle.wire.specs.declared.record.Record.{Record}
-use Rattle.wire.specs.declared.record.Writing.{Writing}
-use Rattle.wire.specs.declared.record.Writing.TheVariants.{Done, Refused}
+use Rattle.record_program.specs.Fields.{numbers_of}
 use Rattle.record_program.specs.Numbers.{fit, room_for}
 
 -- all but the buffer
@@ -25,17 +26,6 @@ pub record Fields (a : List ℕ) : Type 0 where
   pub symbol : get_or a 5 0 < 2 ^ 32
 
 module _ (a : List ℕ) where
-  pub but_room : Fields a → fit a ≡ leb (get_or a 9 0) 64
-  unfolding fit
-  but_room f =
-      rw (
-        le-leb (get_or a 0 0) 1 f.is_fdt,
-        le-leb (get_or a 1 0) 1 f.close,
-        lt-ltb (get_or a 2 0) (2 ^ 32) f.fdt_id,
-        lt-ltb (get_or a 4 0) (2 ^ 32) f.block,
-        lt-ltb (get_or a 5 0) (2 ^ 32) f.symbol,
-      )
-
   pub fitting : fit a ≡ true → Fields a × (get_or a 9 0 ≤ 64)
   unfolding fit
   fitting h =
@@ -58,20 +48,22 @@ module _ (a : List ℕ) where
         leb-true _ _ t5.1,
       )
 
-  pub unfit : (Fields a → ⊥) → fit a ≡ false
-  unfit f = ⊎_elim (λ (t : fit a ≡ true). absurd (f (fitting t).0)) (λ (t : fit a ≡ false). t) (bool_cases (fit a))
-
-abbrev pub is_done : Writing → Bool
-is_done Done = true
-is_done Refused = false
-
-told : (a : Writing) (b : Bool) → writing_said a ≡ (when b then done else writing_said Refused) → is_done a ≡ b
-told Done true h = refl
-told Done false h = let z : ◌≡◌ {A = ℕ} 0 1 = cc in absurd (omega arith)
-told Refused true h = let z : ◌≡◌ {A = ℕ} 0 1 = cc in absurd (omega arith)
-told Refused false h = refl
+told : (a : Result (Unit {0}) Refusal) (b : Bool) → writing_said a ≡ (when b then done else refused Because.Record) → is_ok a ≡ b
+told (Ok u) true h = refl
+told (Ok u) false h = cc
+told (Err why) true h = cc
+told (Err why) false h = refl
 
 -- a write is done exactly where there is room for the record
-pub room_told : {out after : List ℕ} {room : ℕ} {r : Record} {a : Writing} → RecordWrites out r a after → length out ≡ room → is_done a ≡ room_for room r
+pub room_told : {out after : List ℕ} {room : ℕ} {r : Record} {a : Result (Unit {0}) Refusal} → RecordWrites out r a after → length out ≡ room → is_ok a ≡ room_for room r
 unfolding write_answer writable room_for
 room_told {out} {after} {room} {r} {a} w e = told a (writable out r) w.answer ∙ ap (λ n. leb record_size n && good r) e
+
+flag_back : (b : Bool) → eqb (one_if b) 1 ≡ b
+flag_back true = refl
+flag_back false = refl
+
+-- the numbers that are shown of a record are those that it is written from
+pub shown_back : (r : Record) → with_values (numbers_of r) ≡ r
+unfolding with_values
+shown_back r = rw (flag_back r.is_fdt, flag_back r.close)

@@ -26,84 +26,43 @@ pub fn put_hex(out: &mut [u8], at: usize, bytes: &[u8]) -> usize
     ensures { at + 2 * length bytes.now ≤ length out.old → Appended out.old at (hex_of bytes.now) out.new result }
 {
     let mut end = at;
-    let mut i = 0;
-    while i < bytes.len() {
-        end = put_byte(out, end, bytes[i]);
-        i += 1;
+    for b in bytes {
+        end = put_byte(out, end, *b);
     }
     end
 }
 
-// What digits stand for, if they are digits.
-#[derive(Clone, Copy)]
-pub enum Meant {
-    Number(u8),
-    Nothing,
-}
-
-// A digit, in either case.
-fn value(c: u8) -> Meant
+// What a digit stands for, in either case, if it is one.
+fn value(c: u8) -> Option<u8>
     ensures { result ≡ value_of c }
 {
-    if c < 48 {
-        return Meant::Nothing;
+    match c {
+        b'0'..=b'9' => Some(c - 48),
+        b'A'..=b'F' => Some(c - 55),
+        b'a'..=b'f' => Some(c - 87),
+        _ => None,
     }
-    if c <= 57 {
-        return Meant::Number(c - 48);
-    }
-    if c < 65 {
-        return Meant::Nothing;
-    }
-    if c <= 70 {
-        return Meant::Number(c - 55);
-    }
-    if c < 97 {
-        return Meant::Nothing;
-    }
-    if c <= 102 {
-        return Meant::Number(c - 87);
-    }
-    Meant::Nothing
 }
 
-// The two digits of a byte.
-fn pair(a: u8, b: u8) -> Meant
+// What the two digits of a byte stand for.
+fn pair(a: u8, b: u8) -> Option<u8>
     ensures { result ≡ pair_value (value_of a) (value_of b) }
 {
-    let Meant::Number(high) = value(a) else {
-        return Meant::Nothing;
-    };
-    let Meant::Number(low) = value(b) else {
-        return Meant::Nothing;
-    };
-    Meant::Number(16 * high + low)
+    let high = value(a)?;
+    let low = value(b)?;
+    Some(16 * high + low)
 }
 
-// How many bytes a word spells in hex, if it does.
-#[derive(Clone, Copy)]
-pub enum Spelled {
-    Bytes(usize),
-    Nothing,
-}
-
-// Puts the bytes that w spells in hex at the front of out, where there is room for them.
-pub fn read_hex(w: &[u8], out: &mut [u8]) -> Spelled
+// Puts the bytes that w spells in hex at the front of out, where there is room for them, and answers how many they are.
+pub fn read_hex(w: &[u8], out: &mut [u8]) -> Option<usize>
     ensures { length w.now ≤ 2 * length out.old → HexRead w.now out.new result }
 {
     let n = w.len() / 2;
-    if out.len() < n {
-        return Spelled::Nothing;
+    if out.len() < n || w.len() % 2 != 0 {
+        return None;
     }
-    if w.len() % 2 != 0 {
-        return Spelled::Nothing;
+    for (i, b) in out[..n].iter_mut().enumerate() {
+        *b = pair(w[2 * i], w[2 * i + 1])?;
     }
-    let mut i = 0;
-    while i < n {
-        let Meant::Number(b) = pair(w[2 * i], w[2 * i + 1]) else {
-            return Spelled::Nothing;
-        };
-        out[i] = b;
-        i += 1;
-    }
-    Spelled::Bytes(n)
+    Some(n)
 }

@@ -4,69 +4,54 @@
 mod hex;
 mod numbers;
 
-ghost use Rattle.std.specs.Prelude.{◌≡◌, ◌≤◌, length, replicate};
+ghost use Rattle.std.specs.Prelude.{◌≡◌, ◌≤◌, length, replicate, Some};
 ghost use Rattle.record_program.specs.Numbers.{room_for};
 ghost use Rattle.record_program.specs.Readings.{word_said, word_reading};
 
-use crate::hex::Spelled;
-use text::Word;
-use wire::record::{Reading, Record, Writing};
+use sizes::refusal::Refusal;
+use std::fmt;
+use text::Words;
+use wire::record::Record;
 
-// A record, and the room of the buffer that it is written into; or that the words are no such thing.
+// A record, and the room of the buffer that it is written into.
 #[derive(Clone, Copy)]
-pub enum WriteWords {
-    Are { record: Record, room: u8 },
-    Bad,
+pub struct WriteWords {
+    pub record: Record,
+    pub room: u8,
 }
 
 // FDT CLOSE FDT_ID TOI BLOCK SYMBOL LENGTH TRANSFER_LENGTH COUNT ROOM
-pub fn write_words(line: &[u8], from: usize) -> WriteWords {
-    let n = numbers::read_numbers(line, from);
-    if !n.ok {
-        return WriteWords::Bad;
-    }
-    let a = n.all;
+pub fn write_words(words: Words) -> Option<WriteWords> {
+    let a = numbers::read_numbers(words)?;
     if !numbers::in_range(a) {
-        return WriteWords::Bad;
+        return None;
     }
-    WriteWords::Are {
+    Some(WriteWords {
         record: numbers::record_of(a),
         room: a[9] as u8,
-    }
+    })
 }
 
-// What the bytes of a line are as a record; or that its word spells no bytes.
-#[derive(Clone, Copy)]
-pub enum ReadWords {
-    Are(Reading),
-    Bad,
-}
-
-// HEX, or `-` for no byte
-pub fn read_words(line: &[u8], from: usize) -> ReadWords {
-    let Word::At { start, end } = text::next_word(line, from) else {
-        return ReadWords::Bad;
-    };
-    if !text::ended(line, end) {
-        return ReadWords::Bad;
+// HEX, or `-` for no byte: what the bytes of a line are as a record, if its word spells bytes.
+pub fn read_words(mut words: Words) -> Option<Result<Record, Refusal>> {
+    let w = words.next_word()?;
+    if !words.is_over() {
+        return None;
     }
-    let w = text::part(line, start, end);
-    if text::is_word(w, b"-") {
-        return ReadWords::Are(wire::record::read(b""));
+    if w == b"-".as_slice() {
+        return Some(wire::record::read(b""));
     }
     read_word(w)
 }
 
 // The same for bytes in hex. The buffer holds what the longest line can spell.
-fn read_word(w: &[u8]) -> ReadWords
+fn read_word(w: &[u8]) -> Option<Result<Record, Refusal>>
     ensures { length w.now ≤ 65536 → word_said result ≡ word_reading w.now }
 {
     let mut space = [0u8; 32768];
     let buffer: &mut [u8] = &mut space;
-    let Spelled::Bytes(n) = hex::read_hex(w, buffer) else {
-        return ReadWords::Bad;
-    };
-    ReadWords::Are(wire::record::read(text::part(buffer, 0, n)))
+    let n = hex::read_hex(w, buffer)?;
+    Some(wire::record::read(text::part(buffer, 0, n)))
 }
 
 // The largest buffer, before a record is written.
@@ -76,50 +61,45 @@ fn untouched() -> [u8; 256]
     [0xAA; 256]
 }
 
-// Can the record be written into a buffer with this room?
-pub fn is_writable(r: Record, room: u8) -> bool
-    ensures { result ≡ room_for room r }
-{
-    let mut space = untouched();
-    let buffer: &mut [u8] = &mut space;
-    let n = room as usize;
-    let Writing::Done = wire::record::write(&mut buffer[..n], r) else {
-        return false;
-    };
-    true
+impl WriteWords {
+    // Can the record be written into the buffer?
+    pub fn is_writable(&self) -> bool
+        ensures { result ≡ room_for self.now.room self.now.record }
+    {
+        let mut space = untouched();
+        let buffer: &mut [u8] = &mut space;
+        let n = self.room as usize;
+        wire::record::write(&mut buffer[..n], self.record).is_ok()
+    }
+
+    // Puts the bytes of the buffer, into which the record is written, at the front of out, and answers where they end.
+    pub fn put_written(&self, out: &mut [u8]) -> usize {
+        let mut space = untouched();
+        let buffer: &mut [u8] = &mut space;
+        let n = self.room as usize;
+        let _ = wire::record::write(&mut buffer[..n], self.record);
+        let at = text::put_text(out, 0, b"record ");
+        hex::put_hex(out, at, text::part(buffer, 0, n))
+    }
 }
 
-// Puts the bytes of a buffer with this room, into which the record is written, at the front of out, and answers where they end.
-pub fn put_written(out: &mut [u8], r: Record, room: u8) -> usize {
-    let mut space = untouched();
-    let buffer: &mut [u8] = &mut space;
-    let n = room as usize;
-    wire::record::write(&mut buffer[..n], r);
-    let at = text::put_text(out, 0, b"record ");
-    hex::put_hex(out, at, text::part(buffer, 0, n))
-}
+// A record that was read, as `fields FDT CLOSE FDT_ID TOI BLOCK SYMBOL LENGTH TRANSFER_LENGTH COUNT`.
+#[derive(Clone, Copy)]
+pub struct Fields(pub Record);
 
-// The same for the fields of a record that was read.
-pub fn put_fields(out: &mut [u8], r: Record) -> usize {
-    let a = put_names(out, r);
-    let b = text::put_next(out, a, r.length);
-    let c = text::put_next(out, b, r.total);
-    text::put_next(out, c, r.symbols)
-}
+impl fmt::Display for Fields {
+    ghost use Rattle.record_program.specs.Fields.{fields_text};
 
-// Up to the symbol's number.
-fn put_names(out: &mut [u8], r: Record) -> usize {
-    let block = r.block;
-    let symbol = r.symbol;
-    let a = put_flags(out, r);
-    let b = text::put_next(out, a, r.fdt_id as u64);
-    let c = text::put_next(out, b, r.toi);
-    let d = text::put_next(out, c, block.0 as u64);
-    text::put_next(out, d, symbol.0 as u64)
-}
+    ghost output = { λ f. Some (fields_text f.0) };
 
-fn put_flags(out: &mut [u8], r: Record) -> usize {
-    let a = text::put_text(out, 0, b"fields");
-    let b = text::put_next(out, a, r.is_fdt as u64);
-    text::put_next(out, b, r.close as u64)
+    fn fmt<W: fmt::Write>(&self, f: &mut fmt::Formatter<W>) -> fmt::Result {
+        let r = self.0;
+        write!(
+            f,
+            "fields {} {} {} {}",
+            r.is_fdt as u8, r.close as u8, r.fdt_id, r.toi
+        )?;
+        write!(f, " {} {} {}", r.block.0, r.symbol.0, r.length)?;
+        write!(f, " {} {}", r.total, r.symbols)
+    }
 }

@@ -4,32 +4,16 @@ ghost use Rattle.wire.specs.Record.{with_values};
 ghost use Rattle.record_program.specs.Numbers.{fit};
 
 use sizes::numbers::{Esi, Sbn};
-use text::Field;
+use text::Words;
 use wire::record::Record;
 
-// Ten numbers; not `ok` where there are less or more words, or one is no number.
-#[derive(Clone, Copy)]
-pub struct Numbers {
-    pub ok: bool,
-    pub all: [u64; 10],
-}
-
-pub fn read_numbers(line: &[u8], from: usize) -> Numbers {
+// Ten numbers; None where there are less or more words, or one is no number.
+pub fn read_numbers(mut words: Words) -> Option<[u64; 10]> {
     let mut all = [0u64; 10];
-    let mut count = 0;
-    let mut next = from;
-    while count < 10 {
-        let Field::Value { value, next: end } = text::next_number(line, next) else {
-            return Numbers { ok: false, all };
-        };
-        all[count] = value;
-        next = end;
-        count += 1;
+    for n in all.iter_mut() {
+        *n = words.next_number().ok()?;
     }
-    Numbers {
-        ok: text::ended(line, next),
-        all,
-    }
+    words.is_over().then_some(all)
 }
 
 // The largest number of 32 bits.
@@ -43,22 +27,12 @@ const MOST_ROOM: u64 = 64;
 pub fn in_range(a: [u64; 10]) -> bool
     ensures { result ≡ fit a }
 {
-    if 1 < a[0] {
-        return false;
-    }
-    if 1 < a[1] {
-        return false;
-    }
-    if MOST_32 < a[2] {
-        return false;
-    }
-    if MOST_32 < a[4] {
-        return false;
-    }
-    if MOST_32 < a[5] {
-        return false;
-    }
-    a[9] <= MOST_ROOM
+    a[0] <= 1
+        && a[1] <= 1
+        && a[2] <= MOST_32
+        && a[4] <= MOST_32
+        && a[5] <= MOST_32
+        && a[9] <= MOST_ROOM
 }
 
 // The record of the first nine.

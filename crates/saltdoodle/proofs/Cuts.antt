@@ -30,7 +30,7 @@ use Rattle.sender.specs.declared.sender.Sender.{Sender}
 use Rattle.sender.specs.declared.sendersession.SenderSession.{SenderSession}
 use Rattle.lending.proofs.Whole.{uint_data, cell_of, of_cell}
 use Rattle.lending.proofs.Items.{cut_then, cut_record}
-use Rattle.saltdoodle.proofs.Settles.{session_at}
+use Rattle.saltdoodle.specs.Lent.{session_at}
 use Rattle.sender.specs.contracts.sender.Sender as T
 use Rattle.sender.proofs.sender.Sender.TheLaws as T'
 use Rattle.sender.specs.contracts.sendersession.SenderSession as X

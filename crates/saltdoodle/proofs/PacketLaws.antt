@@ -1,30 +1,31 @@
--- What is told of a packet, case by case: where its payload stands, and its record.
+-- What is told of a packet, case by case: the packet itself, and where its payload stands.
 use mathlib.Core.Path.{◌≡◌, refl, sym, ◌∙◌, ap}
 use mathlib.Core.Bool.{true, false}
-use mathlib.Core.Option.{none, some}
-use mathlib.Core.List.{List}
+use Rattle.std.specs.Prelude.{None, Some, Ok, Err}
 use Prim.Native.Nat.{ℕ}
 use lib.ListN.{length, take, drop}
-use Rattle.sizes.specs.Words.{when◌then◌else◌, maybe}
-use Rattle.sizes.specs.Refusals.{refusal_number}
-use Rattle.sizes.specs.declared.refusal.Refusal.TheVariants as Because
+use Rattle.sizes.specs.Words.{when◌then◌else◌}
 use Rattle.lifecycle.specs.Parts.{past_store}
 use Rattle.definition.specs.Payload.{Store, Stores, Place, no_place, bytes_of, store_of, place_of, payload_of}
 use Rattle.sender.specs.SenderCalls.{packet_said}
-use Rattle.sender.specs.declared.sender.RunAnswer.TheVariants as RunV
-use Rattle.sender.proofs.PayloadLaws.{of_fdt, of_object}
-use Rattle.wire.specs.Record.{writing_said, write_answer, write_buffer, RecordWrites}
-use Rattle.wire.specs.declared.record.Record.{Record}
-use Rattle.wire.specs.declared.record.Writing.{Writing}
-use Rattle.wire.specs.declared.record.Writing.TheVariants as WritingV
+use Rattle.sender.specs.declared.sender.Packet.{Packet}
 use Rattle.host_structs.specs.declared.answers.Sent.{Sent}
-use Rattle.saltdoodle.specs.Record.{packet_sent, PacketKept, place_named, place_in, PayloadTold, record_sent, writing_told, said_told, RecordTold}
+use Rattle.saltdoodle.specs.Record.{packet_sent, PacketKept, place_named, place_in, PayloadTold}
 use Rattle.saltdoodle.specs.declared.record.PayloadPlace.{PayloadPlace}
 
 pub packet_kept : PacketKept
-packet_kept taken (RunV.Packet p) = refl
-packet_kept taken RunV.Nothing = refl
-packet_kept taken (RunV.Refused why) = refl
+packet_kept taken (Ok (Some p)) = refl
+packet_kept taken (Ok None) = refl
+packet_kept taken (Err why) = refl
+
+-- the store that a packet's payload stands in
+of_fdt : (p : Packet) → p.is_fdt ≡ true → store_of (packet_said p) ≡ Store.fdts
+unfolding store_of
+of_fdt p e = rw e
+
+of_object : (p : Packet) → p.is_fdt ≡ false → store_of (packet_said p) ≡ Store.objects
+unfolding store_of
+of_object p e = rw e
 
 module _ (n f : ℕ) (s : Sent) (r : PayloadPlace) where
   -- the bytes are those at the place
@@ -35,14 +36,14 @@ module _ (n f : ℕ) (s : Sent) (r : PayloadPlace) where
   -- without a packet
   pub of_none : s.sent ≡ false → place_named r ≡ no_place → PayloadTold n f s r
   unfolding place_of
-  of_none e h = placed (λ m a b. h ∙ sym (ap (λ t. place_of m (when t then some (packet_said s.packet) else none)) e))
+  of_none e h = placed (λ m a b. h ∙ sym (ap (λ t. place_of m (when t then Some (packet_said s.packet) else None)) e))
 
   -- with one whose payload stands in the store x of length k
   in_store : (x : Store) (k : ℕ) (m : Stores) → s.sent ≡ true → store_of (packet_said s.packet) ≡ x → length (bytes_of m x) ≡ k
       → place_of m (packet_sent s) ≡ (when past_store k s.packet.symbol.payload then no_place else record { store = x; part = s.packet.symbol.payload })
   unfolding place_of
   in_store x k m e stands long =
-      ap (λ t. place_of m (when t then some (packet_said s.packet) else none)) e
+      ap (λ t. place_of m (when t then Some (packet_said s.packet) else None)) e
       ∙ ap (λ y. when past_store (length (bytes_of m y)) s.packet.symbol.payload then no_place else record { store = y; part = s.packet.symbol.payload }) stands
       ∙ ap (λ j. when past_store j s.packet.symbol.payload then no_place else record { store = x; part = s.packet.symbol.payload }) long
 
@@ -51,18 +52,3 @@ module _ (n f : ℕ) (s : Sent) (r : PayloadPlace) where
 
   pub of_an_object : s.sent ≡ true → s.packet.is_fdt ≡ false → place_named r ≡ place_in false n s.packet.symbol.payload → PayloadTold n f s r
   of_an_object e d h = placed (λ m a b. h ∙ sym (in_store Store.objects n m e (of_object s.packet d) a))
-
-writing_agrees : (a : Writing) → writing_told a ≡ said_told (writing_said a)
-writing_agrees WritingV.Done = refl
-writing_agrees WritingV.Refused = refl
-
--- a packet's record is written, or refused
-pub with_record : (s : Sent) (r : Record) (a : Writing) (before after : List ℕ) (answer : ℕ) → record_sent s ≡ some r → RecordWrites before r a after → answer ≡ writing_told a → RecordTold s before answer after
-with_record s r a before after answer e w t = record {
-  said = t ∙ writing_agrees a ∙ ap said_told w.answer ∙ sym (ap (maybe (refusal_number Because.Record) (λ x. said_told (write_answer before x))) e);
-  buffer = w.buffer ∙ sym (ap (maybe before (write_buffer before)) e);
-}
-
--- without a packet
-pub without_record : (s : Sent) (before : List ℕ) (answer : ℕ) → record_sent s ≡ none → answer ≡ refusal_number Because.Record → RecordTold s before answer before
-without_record s before answer e t = record { said = t ∙ sym (ap (maybe (refusal_number Because.Record) (λ x. said_told (write_answer before x))) e); buffer = sym (ap (maybe before (write_buffer before)) e) }

@@ -1,14 +1,12 @@
--- The sender, what the host names and is told, and the results of the by-value calls, as data that a lent call passes.
+-- The sender, and what the host names and is told, as data that a lent call passes.
 -- Assumes `Logic`.
-use mathlib.Core.Path.{refl, ap}
-use mathlib.Core.List.{[], ◌∷◌}
+use mathlib.Core.Path.{refl}
 use seplogic.Ra.Ura.{Ura}
 use mir.Syntax.{w32}
 use types.Logic.{Logic}
 use denote.Laws.{Copy}
 use denote.Opens.{Opens}
 use denote.Builtin.{u32, bool}
-use denote.Steps.{only}
 use denote.Struct.Laws as LL
 use Rattle.sender.specs.contracts.sender.Sender as T
 use Rattle.sender.proofs.sender.Sender.TheLaws as T'
@@ -32,15 +30,7 @@ use Rattle.lifecycle.specs.contracts.filedesc.Time as I
 use Rattle.lifecycle.proofs.filedesc.Time.TheLaws as I'
 use Rattle.lifecycle.specs.contracts.parts.Part as C
 use Rattle.lifecycle.proofs.parts.Part.TheLaws as C'
-use Rattle.saltdoodle.specs.contracts.byvalue.Numbering as NG
-use Rattle.saltdoodle.proofs.byvalue.Numbering.TheLaws as NG'
-use Rattle.saltdoodle.specs.contracts.byvalue.Refusing as RG
-use Rattle.saltdoodle.proofs.byvalue.Refusing.TheLaws as RG'
-use Rattle.saltdoodle.specs.contracts.byvalue.Sending as SG
-use Rattle.saltdoodle.proofs.byvalue.Sending.TheLaws as SG'
-use Rattle.sender.specs.contracts.sender.Touching as TG
-use Rattle.sender.proofs.sender.Touching.TheLaws as TG'
-use Rattle.lending.proofs.Whole.{Data, Pair, struct_data, uint_data, bool_data}
+use Rattle.lending.proofs.Whole.{Data, struct_data, uint_data, bool_data}
 
 module _ {M : Type 1} {𝓤 : Ura M} (𝓛 : Logic 𝓤) where
   abbrev pub sender : Data 𝓛 T.the_row
@@ -88,15 +78,3 @@ module _ {M : Type 1} {𝓤 : Ura M} (𝓛 : Logic 𝓤) where
 
   abbrev pub truth : Data 𝓛 bool
   truth = bool_data 𝓛
-
-  abbrev pub numbering : Pair 𝓛 sender numbered NG.the_row
-  numbering = record { name = (NG.struct).name; answer = λ r. r.answer; state = λ r. r.sender; laid = λ r v gs. ap only (LL.tells NG.the_type NG'.the_laws r (v ∷ []) gs); answer_is = λ r v gs. (LL.owed NG.the_type NG'.the_laws r (v ∷ []) gs).0; state_is = λ r v gs. (LL.owed NG.the_type NG'.the_laws r (v ∷ []) gs).1.0; typed = λ r v gs. ((LL.lawful NG.the_type NG'.the_laws 𝓛).typed r _ gs).0 }
-
-  abbrev pub refusing : Pair 𝓛 sender refusal RG.the_row
-  refusing = record { name = (RG.struct).name; answer = λ r. r.answer; state = λ r. r.sender; laid = λ r v gs. ap only (LL.tells RG.the_type RG'.the_laws r (v ∷ []) gs); answer_is = λ r v gs. (LL.owed RG.the_type RG'.the_laws r (v ∷ []) gs).0; state_is = λ r v gs. (LL.owed RG.the_type RG'.the_laws r (v ∷ []) gs).1.0; typed = λ r v gs. ((LL.lawful RG.the_type RG'.the_laws 𝓛).typed r _ gs).0 }
-
-  abbrev pub sending : Pair 𝓛 sender sent SG.the_row
-  sending = record { name = (SG.struct).name; answer = λ r. r.answer; state = λ r. r.sender; laid = λ r v gs. ap only (LL.tells SG.the_type SG'.the_laws r (v ∷ []) gs); answer_is = λ r v gs. (LL.owed SG.the_type SG'.the_laws r (v ∷ []) gs).0; state_is = λ r v gs. (LL.owed SG.the_type SG'.the_laws r (v ∷ []) gs).1.0; typed = λ r v gs. ((LL.lawful SG.the_type SG'.the_laws 𝓛).typed r _ gs).0 }
-
-  abbrev pub telling : Pair 𝓛 sender truth TG.the_row
-  telling = record { name = (TG.struct).name; answer = λ r. r.yes; state = λ r. r.sender; laid = λ r v gs. ap only (LL.tells TG.the_type TG'.the_laws r (v ∷ []) gs); answer_is = λ r v gs. (LL.owed TG.the_type TG'.the_laws r (v ∷ []) gs).0; state_is = λ r v gs. (LL.owed TG.the_type TG'.the_laws r (v ∷ []) gs).1.0; typed = λ r v gs. ((LL.lawful TG.the_type TG'.the_laws 𝓛).typed r _ gs).0 }

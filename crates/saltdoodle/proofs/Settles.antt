@@ -1,13 +1,12 @@
 -- Where `fast_run::settle` settles a run of a file session, the sender's run is that: nothing but the session changes.
 use mathlib.Core.Path.{◌≡◌, refl, sym, ◌∙◌, ap, subst}
-use mathlib.Core.List.{List}
 use mathlib.Core.Bool.{Bool, true, false, ◌||◌, true≢false}
-use Prim.Native.Nat.{ℕ, ◌<◌, ◌≤◌, ◌+◌, ◌*◌, ◌^◌}
+use Rattle.std.specs.Prelude.{Option, None, Some}
+use Prim.Native.Nat.{ℕ, ◌<◌, ◌≤◌}
 use native.Mathlib.Omega.{arith}
-use native.Mathlib.Nat.{add_assoc}
-use borrow.Table.Elements.{at, at_mul}
 use lib.Dec.{ltb}
 use borrow.Author.Tests.{ltb-true, ltb-false}
+use mathlib.Core.List.{List}
 use lib.ListN.{get_or, set, length, length-set}
 use Rattle.std.proofs.lemmas.List.{get_or_default, get_or-set_same, set-set}
 use Rattle.sizes.specs.Words.{when◌then◌else◌}
@@ -18,17 +17,13 @@ use Rattle.lifecycle.specs.Announce.{waits_of}
 use Rattle.lifecycle.specs.declared.slots.Slot.{Slot}
 use Rattle.lifecycle.specs.declared.fdt.Fdt.{Fdt}
 use Rattle.sender.specs.EncoderCalls.{read_of}
-use Rattle.sender.specs.SessionCalls.{idle_of, forced_slot, service_by, served_of, ran_by, attended_of, again_by, ran_of}
-use Rattle.sender.specs.SenderCalls.{ValidSender, with_session, answer_of, running_of}
+use Rattle.sender.specs.SessionCalls.{Serving, Turn, idle_of, forced_slot, service_by, served_of, ran_by, attended_of, again_by, ran_of}
+use Rattle.sender.specs.SenderCalls.{Running, ValidSender, with_session, answer_of, running_of}
 use Rattle.sender.specs.declared.blockencoder.BlockEncoder.{BlockEncoder}
-use Rattle.sender.specs.declared.blockencoder.Emitted.{Emitted}
-use Rattle.sender.specs.declared.blockencoder.Emitted.TheVariants as EmittedV
+use Rattle.sender.specs.declared.blockencoder.Symbol.{Symbol}
 use Rattle.sender.specs.declared.sendersession.SenderSession.{SenderSession}
-use Rattle.sender.specs.declared.sendersession.Serving.{Serving}
 use Rattle.sender.specs.declared.sendersession.Outcome.{Outcome}
 use Rattle.sender.specs.declared.sendersession.Outcome.TheVariants as OutcomeV
-use Rattle.sender.specs.declared.sendersession.Turn.{Turn}
-use Rattle.sender.specs.declared.sender.Running.{Running}
 use Rattle.sender.specs.declared.sender.Sender.{Sender}
 use Rattle.sender.proofs.SenderKept.{runs, run_goes, ran_sender}
 use Rattle.host_structs.specs.Answers.{run_told}
@@ -37,15 +32,11 @@ use Rattle.fast_run.specs.declared.Settled.{Settled}
 use Rattle.fast_run.specs.Quick.{Quick, stepped}
 use Rattle.fast_run.specs.declared.quick.Numbers.{Numbers}
 use Rattle.fast_run.proofs.Cases.{idles, goes}
-use Rattle.saltdoodle.specs.Lent.{RunsFileLent}
-
--- file session i
-abbrev pub session_at : Sender → ℕ → SenderSession
-session_at s i = get_or s.sessions i (idle_of 0)
+use Rattle.saltdoodle.specs.Lent.{session_at, slot_of, RunsFileLent}
 
 -- what `settle` is asked of it
-abbrev pub settled_at : Sender → ℕ → ℕ → Settled
-settled_at s i now = settled_of s.fdt.announcer.waiting now (slot_at s.fdt.slots (session_at s i).slot) (session_at s i)
+abbrev pub settled_at : Sender → ℕ → ℕ → Option Settled
+settled_at s i now = settled_of s.fdt.announcer.waiting now (slot_of s i) (session_at s i)
 
 -- ---- a session that has an object in hand is in use
 
@@ -69,9 +60,9 @@ module _ (s : Sender) (ok : ValidSender s) (i : ℕ) where
 
 -- ---- what a service comes to
 
-slot_by : (x : SenderSession) (y : BlockEncoder) (e : Emitted) → (service_by x y e).session.slot ≡ x.slot
-slot_by x y EmittedV.Nothing = refl
-slot_by x y (EmittedV.One s) = refl
+slot_by : (x : SenderSession) (y : BlockEncoder) (e : Option Symbol) → (service_by x y e).session.slot ≡ x.slot
+slot_by x y None = refl
+slot_by x y (Some s) = refl
 
 slot_if : (b : Bool) (x : SenderSession) (r : Serving) → r.session.slot ≡ x.slot → (when b then record { answer = OutcomeV.Idle; session = x } else r).session.slot ≡ x.slot
 slot_if true x r e = refl
@@ -85,15 +76,15 @@ served_slot forced blocked now x = slot_if (blocked || too_early now (pace_said 
 abbrev again : ℕ → ℕ → Fdt → SenderSession → SenderSession → Outcome → Turn
 again w now f x y a = again_by w now (ran_by now f x y a) (ran_by now f x y a).answer
 
-once : (w now : ℕ) (f : Fdt) (x : SenderSession) (toi : ℕ) (y : SenderSession) (a : Outcome) → (settled_by x toi y a).done ≡ true → again w now f x y a ≡ record { answer = a; fdt = f; session = y }
-once w now f x toi y OutcomeV.Over e = absurd (true≢false (sym e))
-once w now f x toi y OutcomeV.Idle e = refl
-once w now f x toi y (OutcomeV.Sent s) e = refl
+once : (w now : ℕ) (f : Fdt) (x : SenderSession) (toi : ℕ) (y : SenderSession) (a : Outcome) (r : Settled) → settled_by toi y a ≡ Some r → again w now f x y a ≡ record { answer = a; fdt = f; session = y }
+once w now f x toi y OutcomeV.Over r e = cc
+once w now f x toi y OutcomeV.Idle r e = refl
+once w now f x toi y (OutcomeV.Sent s) r e = refl
 
-told : (x : SenderSession) (toi : ℕ) (y : SenderSession) (a : Outcome) → (settled_by x toi y a).done ≡ true → settled_by x toi y a ≡ settled_as true (answer_of false toi 0 a) y
-told x toi y OutcomeV.Over e = absurd (true≢false (sym e))
-told x toi y OutcomeV.Idle e = refl
-told x toi y (OutcomeV.Sent s) e = refl
+told : (toi : ℕ) (y : SenderSession) (a : Outcome) (r : Settled) → settled_by toi y a ≡ Some r → r ≡ settled_as (answer_of false toi 0 a) y
+told toi y OutcomeV.Over r e = cc
+told toi y OutcomeV.Idle r e = cc
+told toi y (OutcomeV.Sent s) r e = cc
 
 module _ (s : Sender) (ok : ValidSender s) (i now : ℕ) where
   abbrev x : SenderSession
@@ -109,17 +100,17 @@ module _ (s : Sender) (ok : ValidSender s) (i now : ℕ) where
   unfolding ran_of attended_of
   rounds e = rw e
 
-  module _ (busy : x.busy ≡ true) (done : (settled_by x t.file.toi v.session v.answer).done ≡ true) where
+  module _ (busy : x.busy ≡ true) (r : Settled) (e : settled_by t.file.toi v.session v.answer ≡ Some r) where
     abbrev after : Running
     after = record { taken = false; answer = answer_of false t.file.toi 0 v.answer; sender = with_session i v.session s }
 
     run_is : running_of i now s ≡ after
-    run_is = run_goes i now s (used s ok i busy) ∙ ap (ran_sender i s) (rounds busy ∙ once s.window now s.fdt x t.file.toi v.session v.answer done)
+    run_is = run_goes i now s (used s ok i busy) ∙ ap (ran_sender i s) (rounds busy ∙ once s.window now s.fdt x t.file.toi v.session v.answer r e)
         ∙ ap (λ (k : ℕ). record { taken = false; answer = answer_of false (slot_at s.fdt.slots k).file.toi 0 v.answer; sender = with_session i v.session s }) (served_slot (forced_slot t) (waits_of s.fdt.announcer) now x)
 
-    lent_by : (r : Settled) → r ≡ settled_by x t.file.toi v.session v.answer → RunsFileLent i now s (with_session i r.session s) r.answer
-    lent_by r e =
-        let z = e ∙ told x t.file.toi v.session v.answer done in
+    lent_by : RunsFileLent i now s (with_session i r.session s) r.answer
+    lent_by =
+        let z = told t.file.toi v.session v.answer r e in
         record {
           result = running_of i now s;
           promised = runs s ok i now;
@@ -128,30 +119,17 @@ module _ (s : Sender) (ok : ValidSender s) (i now : ℕ) where
         }
 
   -- a settled run
-  pub settles : (r : Settled) → r ≡ settled_at s i now → r.done ≡ true → RunsFileLent i now s (with_session i r.session s) r.answer
-  settles r e d = of_bool (RunsFileLent i now s (with_session i r.session s) r.answer) x.busy
-      (λ busy. let z = e ∙ goes s.fdt.announcer.waiting now t x busy in lent_by busy (sym (ap (λ (q : Settled). q.done) z) ∙ d) r z)
-      (λ idle. absurd (true≢false (sym d ∙ ap (λ (q : Settled). q.done) (e ∙ idles s.fdt.announcer.waiting now t x idle))))
+  pub settles : (r : Settled) → settled_at s i now ≡ Some r → RunsFileLent i now s (with_session i r.session s) r.answer
+  settles r e = of_bool (RunsFileLent i now s (with_session i r.session s) r.answer) x.busy
+      (λ busy. lent_by busy r (sym (goes s.fdt.announcer.waiting now t x busy) ∙ e))
+      (λ idle. let z : None ≡ Some r = sym (idles s.fdt.announcer.waiting now t x idle) ∙ e in cc)
 
 -- three numbers say how a run is settled
-pub glances : (s : Sender) → ValidSender s → (i now : ℕ) (r : Numbers) → Quick s.fdt.announcer.waiting now (slot_at s.fdt.slots (session_at s i).slot) (session_at s i) r
+pub glances : (s : Sender) → ValidSender s → (i now : ℕ) (r : Numbers) → Quick s.fdt.announcer.waiting now (slot_of s i) (session_at s i) r
     → RunsFileLent i now s (with_session i (stepped (session_at s i) r.place r.esi r.next r.due) s) r.answer
-glances s ok i now r q = settles s ok i now (record { done = true; answer = r.answer; session = stepped (session_at s i) r.place r.esi r.next r.due }) (sym q.exact) refl
+glances s ok i now r q = settles s ok i now (record { answer = r.answer; session = stepped (session_at s i) r.place r.esi r.next r.due }) q.exact
 
-pub small_open : (p : ℕ) → p < 16 → p * 8 < 2 ^ 64
-small_open p lt = omega arith
-
-pub small : (n : ℕ) → n < 4 → n * 264 < 2 ^ 64
-small n lt = omega arith
-
-pub small_slot : (k : ℕ) → k < 32 → k * 160 < 2 ^ 64
-small_slot k lt = omega arith
-
--- where slot k stands
-pub slot_place : (o k : ℕ) → at (o + (0 + 1112)) 160 k ≡ k * 160 + (o + 0 + 1112)
-slot_place o k = at_mul (o + (0 + 1112)) 160 k ∙ ap (λ (z : ℕ). k * 160 + z) (sym (add_assoc o 0 1112))
-
--- ---- as a run reads it: at any value for what lies past the end, and with the session's numbers stored one after another
+-- ---- as a run reads it: at any value for what lies past the end
 
 module _ (s : Sender) (ok : ValidSender s) (i : ℕ) (within : i < 4) (d : SenderSession) where
   abbrev read : SenderSession
@@ -163,17 +141,21 @@ module _ (s : Sender) (ok : ValidSender s) (i : ℕ) (within : i < 4) (d : Sende
   pub read_valid : ValidSession read
   read_valid = subst ValidSession (sym session_read) (session_valid s ok i)
 
+  -- the numbers are those of the session by name, and are stored in the one that is read
+  pub glances_stored : (now : ℕ) (r : Numbers) → Quick s.fdt.announcer.waiting now (slot_of s i) (session_at s i) r
+      → RunsFileLent i now s (with_session i (stepped read r.place r.esi r.next r.due) s) r.answer
+  glances_stored now r q = subst (λ (x : SenderSession). RunsFileLent i now s (with_session i (stepped x r.place r.esi r.next r.due) s) r.answer) (sym session_read) (glances s ok i now r q)
+
   module _ (e : Slot) where
-    slot_read : get_or s.fdt.slots (session_at s i).slot e ≡ slot_at s.fdt.slots (session_at s i).slot
+    slot_read : get_or s.fdt.slots (session_at s i).slot e ≡ slot_of s i
     slot_read = get_or_default s.fdt.slots (session_at s i).slot e no_slot (omega (arith, slot_below s ok i, ok.holds.valid.slots_long))
 
-    pub settles_read : (now : ℕ) (r : Settled) → r ≡ settled_of s.fdt.announcer.waiting now (get_or s.fdt.slots read.slot e) read → r.done ≡ true → RunsFileLent i now s (with_session i r.session s) r.answer
-    settles_read now r z = settles s ok i now r (z
-        ∙ ap (λ (x : SenderSession). settled_of s.fdt.announcer.waiting now (get_or s.fdt.slots x.slot e) x) session_read
-        ∙ ap (λ (t : Slot). settled_of s.fdt.announcer.waiting now t (session_at s i)) slot_read)
+    pub settles_read : (now : ℕ) (r : Settled) → settled_of s.fdt.announcer.waiting now (get_or s.fdt.slots read.slot e) read ≡ Some r → RunsFileLent i now s (with_session i r.session s) r.answer
+    settles_read now r z = settles s ok i now r (sym (ap (λ (t : Slot). settled_of s.fdt.announcer.waiting now t (session_at s i)) slot_read)
+        ∙ sym (ap (λ (x : SenderSession). settled_of s.fdt.announcer.waiting now (get_or s.fdt.slots x.slot e) x) session_read) ∙ z)
 
     pub glances_read : (now : ℕ) (r : Numbers) → Quick s.fdt.announcer.waiting now (get_or s.fdt.slots read.slot e) read r → RunsFileLent i now s (with_session i (stepped read r.place r.esi r.next r.due) s) r.answer
-    glances_read now r q = settles_read now (record { done = true; answer = r.answer; session = stepped read r.place r.esi r.next r.due }) (sym q.exact) refl
+    glances_read now r q = settles_read now (record { answer = r.answer; session = stepped read r.place r.esi r.next r.due }) q.exact
 
 -- an element that is changed three times
 pub changed_thrice : {X : Type 0} (l : List X) (i : ℕ) (d : X) (f g h : X → X) → i < length l

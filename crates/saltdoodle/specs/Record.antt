@@ -1,6 +1,7 @@
 -- What a host is told of a packet that a run gave: where its payload stands, and its record.
 use Rattle.std.specs.Prelude.{◌≡◌, Bool, false, List, ℕ, length, take, drop}
-use Rattle.std.proofs.Math.Option.{Option, none, some}
+use Rattle.std.specs.Prelude.{Option, None, Some, Result, Ok, Err}
+use Rattle.sizes.specs.declared.refusal.Refusal.{Refusal}
 use Rattle.sizes.specs.Partition.{sbn, esi}
 use Rattle.sizes.specs.Words.{when◌then◌else◌, maybe, over}
 use Rattle.sizes.specs.Refusals.{refusal_number}
@@ -9,14 +10,9 @@ use Rattle.lifecycle.specs.Parts.{past_store}
 use Rattle.lifecycle.specs.declared.parts.Part.{Part}
 use Rattle.definition.specs.FdtSession.{Packet}
 use Rattle.definition.specs.Payload.{Store, Stores, bytes_of, Place, no_place, place_of, payload_of}
-use Rattle.sender.specs.SenderCalls.{packet_said, packet_in}
-use Rattle.sender.specs.declared.sender.RunAnswer.{RunAnswer}
+use Rattle.sender.specs.SenderCalls.{packet_said, packet_in, RunAnswer}
 use Rattle.wire.specs.Record.{RecordAnswer, done, fields, refused, write_answer, write_buffer, RecordReads}
 use Rattle.wire.specs.declared.record.Record.{Record}
-use Rattle.wire.specs.declared.record.Writing.{Writing}
-use Rattle.wire.specs.declared.record.Writing.TheVariants as WritingV
-use Rattle.wire.specs.declared.record.Reading.{Reading}
-use Rattle.wire.specs.declared.record.Reading.TheVariants as ReadingV
 use Rattle.packet_record.specs.PacketRecord.{record_of}
 use Rattle.host_structs.specs.Answers.{run_told}
 use Rattle.host_structs.specs.declared.answers.Sent.{Sent}
@@ -25,7 +21,7 @@ use Rattle.saltdoodle.specs.declared.record.PayloadPlace.{PayloadPlace}
 
 -- the packet that was sent, if one was
 abbrev pub packet_sent : Sent → Option Packet
-packet_sent s = when s.sent then some (packet_said s.packet) else none
+packet_sent s = when s.sent then Some (packet_said s.packet) else None
 
 -- what is told of an answer keeps its packet
 abbrev pub PacketKept : Type 0
@@ -49,10 +45,6 @@ pub record PayloadTold (object_store fdt_store : ℕ) (s : Sent) (r : PayloadPla
 -- its record
 abbrev pub record_sent : Sent → Option Record
 record_sent s = over record_of (packet_sent s)
-
-abbrev pub writing_told : Writing → ℕ
-writing_told WritingV.Done = 0
-writing_told WritingV.Refused = refusal_number Because.Record
 
 -- what a write says, in numbers
 abbrev pub said_told : RecordAnswer → ℕ
@@ -83,12 +75,12 @@ fields_told r = record {
 abbrev pub unread : ℕ → PlainRecord
 unread n = record { refused = n; is_fdt = false; close = false; fdt_id = 0; block = sbn 0; symbol = esi 0; toi = 0; length = 0; total = 0; symbols = 0 }
 
-abbrev pub reading_told : Reading → PlainRecord
-reading_told (ReadingV.Fields r) = fields_told r
-reading_told ReadingV.Refused = unread (refusal_number Because.Record)
+abbrev pub reading_told : Result Record Refusal → PlainRecord
+reading_told (Ok r) = fields_told r
+reading_told (Err why) = unread (refusal_number why)
 
 -- there is a result of the read, with all that is promised of it, and the host is told it
 pub record FieldsTold (bs : List ℕ) (answer : PlainRecord) : Type 0 where
-  pub result : Reading
+  pub result : Result Record Refusal
   pub promised : RecordReads bs result
   pub said : answer ≡ reading_told result

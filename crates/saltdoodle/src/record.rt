@@ -2,15 +2,15 @@
 ghost use Rattle.std.specs.Prelude.{◌≡◌};
 ghost use Rattle.definition.specs.Payload.{no_place};
 ghost use Rattle.sender.specs.SenderCalls.{packet_in};
-ghost use Rattle.saltdoodle.specs.Record.{packet_sent, place_named, place_in, PayloadTold, writing_told, fields_told, reading_told, RecordTold, FieldsTold};
+ghost use Rattle.saltdoodle.specs.Record.{packet_sent, place_named, place_in, PayloadTold, fields_told, reading_told, RecordTold, FieldsTold};
 
-use host_structs::answers::Sent;
+use host_structs::answers::{Sent, refusal_told};
 use lifecycle::parts::{Part, ends_past};
-use packet_record::{PacketRecord, answer_record};
+use packet_record::answer_record;
 use sender::sender::RunAnswer;
 use sizes::numbers::{Esi, Sbn};
-use sizes::refusal::{Refusal, number_of};
-use wire::record::{Reading, Record, Writing, read, write};
+use sizes::refusal::Refusal;
+use wire::record::{Record, read, write};
 
 // Where a payload stands: a part of the FDT store or of the object store.
 #[repr(C)]
@@ -41,58 +41,48 @@ pub struct PlainRecord {
 fn answer_in(s: Sent) -> RunAnswer
     ensures { packet_in result ≡ packet_sent s }
 {
-    if s.sent {
-        let p = s.packet;
-        return RunAnswer::Packet(p);
-    }
-    RunAnswer::Nothing
+    Ok(s.sent.then_some(s.packet))
 }
 
-fn writing_told(a: Writing) -> u32
-    ensures { result ≡ writing_told a }
-{
-    match a {
-        Writing::Done => 0,
-        Writing::Refused => number_of(Refusal::Record),
-    }
-}
+impl From<Record> for PlainRecord {
+    ghost from_gives = { λ r a. a ≡ fields_told r };
 
-fn fields_told(r: Record) -> PlainRecord
-    ensures { result ≡ fields_told r }
-{
-    let block = r.block;
-    let symbol = r.symbol;
-    PlainRecord {
-        refused: 0,
-        is_fdt: r.is_fdt,
-        close: r.close,
-        fdt_id: r.fdt_id,
-        block,
-        symbol,
-        toi: r.toi,
-        length: r.length,
-        total: r.total,
-        symbols: r.symbols,
+    fn from(r: Record) -> PlainRecord {
+        PlainRecord {
+            refused: 0,
+            is_fdt: r.is_fdt,
+            close: r.close,
+            fdt_id: r.fdt_id,
+            block: r.block,
+            symbol: r.symbol,
+            toi: r.toi,
+            length: r.length,
+            total: r.total,
+            symbols: r.symbols,
+        }
     }
 }
 
-fn reading_told(a: Reading) -> PlainRecord
-    ensures { result ≡ reading_told a }
-{
-    match a {
-        Reading::Fields(r) => fields_told(r),
-        Reading::Refused => PlainRecord {
-            refused: number_of(Refusal::Record),
-            is_fdt: false,
-            close: false,
-            fdt_id: 0,
-            block: Sbn(0),
-            symbol: Esi(0),
-            toi: 0,
-            length: 0,
-            total: 0,
-            symbols: 0,
-        },
+// What a read says, or the refusal with zeros.
+impl From<Result<Record, Refusal>> for PlainRecord {
+    ghost from_gives = { λ a r. r ≡ reading_told a };
+
+    fn from(a: Result<Record, Refusal>) -> PlainRecord {
+        match a {
+            Ok(r) => PlainRecord::from(r),
+            Err(why) => PlainRecord {
+                refused: u32::from(why),
+                is_fdt: false,
+                close: false,
+                fdt_id: 0,
+                block: Sbn(0),
+                symbol: Esi(0),
+                toi: 0,
+                length: 0,
+                total: 0,
+                symbols: 0,
+            },
+        }
     }
 }
 
@@ -125,16 +115,12 @@ fn place_in(of_fdt: bool, store: u64, c: Part) -> PayloadPlace
 pub fn sd_payload(object_store: u64, fdt_store: u64, s: Sent) -> PayloadPlace
     ensures { PayloadTold object_store fdt_store s result }
 {
-    if s.sent {
-        let p = s.packet;
-        let y = p.symbol;
-        let c = y.payload;
-        if p.is_fdt {
-            return place_in(true, fdt_store, c);
-        }
-        return place_in(false, object_store, c);
+    if !s.sent {
+        return no_place();
     }
-    no_place()
+    let p = s.packet;
+    let store = if p.is_fdt { fdt_store } else { object_store };
+    place_in(p.is_fdt, store, p.symbol.payload)
 }
 
 // Writes the packet's record. Refused, with nothing written, where there is no packet, or one that has no record.
@@ -142,8 +128,8 @@ pub fn sd_record_write(out: &mut [u8; 28], s: Sent) -> u32
     ensures { RecordTold s out.old result out.new }
 {
     match answer_record(answer_in(s)) {
-        PacketRecord::Fields(r) => writing_told(write(out, r)),
-        PacketRecord::NoPacket => number_of(Refusal::Record),
+        Some(r) => refusal_told(write(out, r)),
+        None => u32::from(Refusal::Record),
     }
 }
 
@@ -151,5 +137,5 @@ pub fn sd_record_write(out: &mut [u8; 28], s: Sent) -> u32
 pub fn sd_record_read(bytes: &[u8; 28]) -> PlainRecord
     ensures { FieldsTold bytes.now result }
 {
-    reading_told(read(bytes))
+    PlainRecord::from(read(bytes))
 }

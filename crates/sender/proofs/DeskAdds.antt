@@ -3,7 +3,7 @@ use Rattle.sizes.specs.declared.refusal.Refusal.TheVariants as Because
 use Rattle.sizes.specs.declared.refusal.Refusal.{Refusal}
 use mathlib.Core.Path.{◌≡◌, refl, sym, ◌∙◌, ap, subst}
 use mathlib.Core.Bool.{Bool, true, false, not, true≢false}
-use mathlib.Core.Option.{Option, some}
+use Rattle.std.specs.Prelude.{Option, None, Some}
 use mathlib.Core.List.{List, [], ◌∷◌, ◌++◌, map}
 use Prim.Native.Nat.{ℕ, ◌+◌}
 use native.Mathlib.Omega.{arith}
@@ -25,10 +25,8 @@ use Rattle.lifecycle.specs.FdtCalls.{files, sends, own_of, refusal, added_of}
 use Rattle.lifecycle.specs.FdtCalls.{new_slot}
 use Rattle.lifecycle.proofs.FdtMeans.{ListAdds, Admits, refused, admits}
 use Rattle.lifecycle.specs.declared.fdt.Fdt.{Fdt}
-use Rattle.lifecycle.specs.declared.fdt.Added.{Added}
+use Rattle.lifecycle.specs.FdtCalls.{Added}
 use Rattle.lifecycle.specs.declared.fdt.Request.{Request}
-use Rattle.lifecycle.specs.declared.fdt.Named.{Named}
-use Rattle.lifecycle.specs.declared.fdt.Named.TheVariants as NamedV
 use Rattle.lifecycle.proofs.FdtViews.{at_each}
 use Rattle.lifecycle.proofs.FdtKeeps.{ObjectsOnly, added_keeps}
 use Rattle.lifecycle.proofs.FdtAdds.{added_view}
@@ -37,10 +35,10 @@ use Rattle.lifecycle.proofs.FileDescLaws.{plan_as_named}
 use Rattle.definition.specs.Desk as Def
 use Rattle.sender.specs.SessionCalls.{Holds, object_of}
 use Rattle.sender.specs.FdtSessionCalls.{FdtHolds, fdt_hand_of}
-use Rattle.sender.specs.SenderCalls.{working, desk_of, Agrees, ValidSender, Kept, add_answer, named_said, object_said, with_list, has_priority, request_of, adding_of}
+use Rattle.sender.specs.SenderCalls.{working, desk_of, Agrees, ValidSender, Kept, add_answer, object_said, with_list, has_priority, request_of, adding_of}
 use Rattle.sender.specs.declared.sender.Sender.{Sender}
 use Rattle.sender.specs.declared.sender.Object.{Object}
-use Rattle.sender.specs.declared.sender.Adding.{Adding}
+use Rattle.sender.specs.SenderCalls.{Adding}
 use Rattle.sender.proofs.DeskCounts.{next_view}
 use Rattle.sender.proofs.DeskChanges.{sessions_same, SentKept, kept_stays, valid_list, agrees_list}
 use Rattle.sender.proofs.DeskRefusals.{own_view, add_refusal_view}
@@ -48,7 +46,7 @@ use Rattle.sender.proofs.DeskRefusals.{own_view, add_refusal_view}
 -- ---- what an add leaves alone
 
 -- a slot that was free was not in transfer, so what is in transfer stays as it was
-pub added_kept : (f : Fdt) (q : Request) (z : Sizes) (named : Named) (r : Added) → ListAdds f q z named r → SentKept f r.fdt
+pub added_kept : (f : Fdt) (q : Request) (z : Sizes) (named : Option ℕ) (r : Added) → ListAdds f q z named r → SentKept f r.fdt
 added_kept f q z named r (refused a e) = subst (λ (x : Added). SentKept f x.fdt) (sym e) (λ j s. refl)
 added_kept f q z named r (admits k t h) = at_each (λ j. sends (slot_at f.slots j) ≡ true → slot_at r.fdt.slots j ≡ slot_at f.slots j) k
     (λ s. absurd (true≢false (sym s ∙ ap sends h.free.blank)))
@@ -81,7 +79,7 @@ module _ (u : Setup) (o : Object) (s : Sender) (agrees : Agrees u s) (v : ValidS
   own = own_of o.own s.fdt.settings.sizes
 
   -- with the new number and the loose ones that the desk has, the new desk is the definition's
-  desk_more : (named : Named) (k t : ℕ) (r : Added) → ObjectsOnly s.fdt r.fdt → Admits s.fdt (request_of o) own named k t r → (d : Def.Desk)
+  desk_more : (named : Option ℕ) (k t : ℕ) (r : Added) → ObjectsOnly s.fdt r.fdt → Admits s.fdt (request_of o) own named k t r → (d : Def.Desk)
       → d.complete ≡ s.fdt.complete → d.next ≡ r.fdt.tois.next → Def.unloosed t d.loose ≡ Alloc.loose r.fdt.tois
       → d.queue ≡ (desk_of s).queue → d.sessions ≡ (desk_of s).sessions → d.fdt ≡ (desk_of s).fdt
       → Def.admitted u t (object_said o) d ≡ desk_of (with_list s r.fdt)
@@ -101,27 +99,27 @@ module _ (u : Setup) (o : Object) (s : Sender) (agrees : Agrees u s) (v : ValidS
       }
 
   -- the desk after an add that is not refused
-  desk_added : (named : Named) (k t : ℕ) (r : Added) → ObjectsOnly s.fdt r.fdt → Admits s.fdt (request_of o) own named k t r
+  desk_added : (named : Option ℕ) (k t : ℕ) (r : Added) → ObjectsOnly s.fdt r.fdt → Admits s.fdt (request_of o) own named k t r
       → ◌≡◌ {A = Def.Result}
-      (Def.Answer.number (Def.toi_for (desk_of s) (named_said named)), Def.admitted u (Def.toi_for (desk_of s) (named_said named)) (object_said o) (when given (named_said named) then desk_of s else Def.reserved u (desk_of s)))
+      (Def.Answer.number (Def.toi_for (desk_of s) named), Def.admitted u (Def.toi_for (desk_of s) named) (object_said o) (when given named then desk_of s else Def.reserved u (desk_of s)))
       (Def.Answer.number t, desk_of (with_list s r.fdt))
   unfolding Def.toi_for Def.reserved Def.numbered Def.unloosed desk_of
-  desk_added (NamedV.Toi w) k t r b h =
+  desk_added (Some w) k t r b h =
       let n = h.number in
       let c = claimed_view s.fdt.tois v.holds.valid.tois w n.1 in
       let d = ap (λ x. Def.admitted u x (object_said o) (desk_of s)) (sym n.0)
-      ∙ desk_more (NamedV.Toi w) k t r b h (desk_of s) refl
+      ∙ desk_more (Some w) k t r b h (desk_of s) refl
       (sym (ap (λ (a : ToiAllocator). a.next) n.2 ∙ c.next_same))
       (ap (λ x. keep (λ y. not (eqb y x)) (Alloc.loose s.fdt.tois)) n.0 ∙ sym (ap Alloc.loose n.2 ∙ c.loose_left))
       refl refl refl in
       λ i. (Def.Answer.number (sym n.0 i), d i)
-  desk_added NamedV.Anew k t r b h =
+  desk_added None k t r b h =
       let n = h.number in
       let a = s.fdt.tois in
       let va = v.holds.valid.tois in
       let away : times a.next (Alloc.loose a) ≡ 0 = (let x = held_split a a.next in let y = has_none a.next (Alloc.held a) va.next_free in omega arith) in
       let d = ap (λ x. Def.admitted u x (object_said o) (Def.reserved u (desk_of s))) (sym n.0)
-      ∙ desk_more NamedV.Anew k t r b h (Def.reserved u (desk_of s)) refl
+      ∙ desk_more None k t r b h (Def.reserved u (desk_of s)) refl
       (next_view s v u agrees false n.1 ∙ sym (ap (λ (a : ToiAllocator). a.next) n.2))
       (ap (λ x. keep (λ y. not (eqb y x)) (Alloc.loose a ++ (a.next ∷ []))) n.0 ∙ unloosed_last a.next (Alloc.loose a) away ∙ sym (ap Alloc.loose n.2 ∙ loose_given a va n.1))
       refl refl refl in
@@ -129,19 +127,19 @@ module _ (u : Setup) (o : Object) (s : Sender) (agrees : Agrees u s) (v : ValidS
 
 -- ---- the call
 
-module _ (o : Object) (named : Named) (s : Sender) (v : ValidSender s) where
+module _ (o : Object) (named : Option ℕ) (s : Sender) (v : ValidSender s) where
   abbrev call : Def.Call
-  call = Def.Call.add (named_said named) (object_said o)
+  call = Def.Call.add named (object_said o)
 
   -- the refusal, or what an admitted add makes of the desk
   abbrev comes : Setup → Option Refusal → Def.Result
   comes u x = Def.unless x (desk_of s)
-      (Def.Answer.number (Def.toi_for (desk_of s) (named_said named)), Def.admitted u (Def.toi_for (desk_of s) (named_said named)) (object_said o) (when given (named_said named) then desk_of s else Def.reserved u (desk_of s)))
+      (Def.Answer.number (Def.toi_for (desk_of s) named), Def.admitted u (Def.toi_for (desk_of s) named) (object_said o) (when given named then desk_of s else Def.reserved u (desk_of s)))
 
   step_is : (u : Setup) → Agrees u s → {b : Bool} → any (has_priority o.priority) (working s) ≡ b
-      → Def.step u (desk_of s) call ≡ comes u (when not b then some Because.NoPriority else refusal (added_of s.fdt (request_of o) named).answer)
+      → Def.step u (desk_of s) call ≡ comes u (when not b then Some Because.NoPriority else refusal (added_of s.fdt (request_of o) named).answer)
   unfolding Def.step
-  step_is u a e = ap (comes u) (add_refusal_view u s a v o named ∙ ap (λ b. when not b then some Because.NoPriority else refusal (added_of s.fdt (request_of o) named).answer) e)
+  step_is u a e = ap (comes u) (add_refusal_view u s a v o named ∙ ap (λ b. when not b then Some Because.NoPriority else refusal (added_of s.fdt (request_of o) named).answer) e)
 
   -- what the list makes of it is what the definition says
   list_means : (u : Setup) → Agrees u s → (r : Added) → ListAdds s.fdt (request_of o) (own_of o.own s.fdt.settings.sizes) named r → ObjectsOnly s.fdt r.fdt
@@ -168,6 +166,6 @@ module _ (o : Object) (named : Named) (s : Sender) (v : ValidSender s) where
       })
       (λ e h g. record { means = λ u a. step_is u a e; agrees = λ u a. a; valid = v })
 
-pub add_kept : {s : Sender} (o : Object) (named : Named) → ValidSender s → Holds (adding_of o named s).sender.fdt → FdtHolds (adding_of o named s).sender.fdt
-    → Kept s (Def.Call.add (named_said named) (object_said o)) (add_answer (adding_of o named s).answer) (adding_of o named s).sender
+pub add_kept : {s : Sender} (o : Object) (named : Option ℕ) → ValidSender s → Holds (adding_of o named s).sender.fdt → FdtHolds (adding_of o named s).sender.fdt
+    → Kept s (Def.Call.add named (object_said o)) (add_answer (adding_of o named s).answer) (adding_of o named s).sender
 add_kept {s} o named v h g = add_kept_of o named s v h g

@@ -1,6 +1,6 @@
 -- Remove and trigger under the sender: the answer and the desk are the definition's, and the sender stays valid.
 use mathlib.Core.Path.{◌≡◌, refl, sym, ◌∙◌, ap}
-use mathlib.Core.Bool.{Bool, true, false, not, ◌&&◌}
+use mathlib.Core.Bool.{Bool, true, false, not, ◌&&◌, and-true, and-false}
 use mathlib.Core.List.{List, [], ◌∷◌, map}
 use Prim.Native.Nat.{ℕ}
 use lib.Dec.{eqb}
@@ -42,14 +42,6 @@ keep_map ok f [] = refl
 keep_map ok f (a ∷ l) = elim (ok (f a)) as (λ t. (when t then f a ∷ keep ok (map f l) else keep ok (map f l)) ≡ map f (when t then a ∷ keep (λ a. ok (f a)) l else keep (λ a. ok (f a)) l))
     [ true ↦ ap (λ r. f a ∷ r) (keep_map ok f l) | false ↦ keep_map ok f l ]
 
-and_true : (a : Bool) → (a && true) ≡ a
-and_true true = refl
-and_true false = refl
-
-and_false : (a : Bool) → (a && false) ≡ false
-and_false true = refl
-and_false false = refl
-
 -- a hand with this flag
 abbrev flagged : Slot → SenderSession → Bool → Hand
 flagged y x b = record { object = object_of y.file; listed = b; encoder = encoder_of x.encoder; pace = pace_said x.pace }
@@ -58,7 +50,7 @@ flagged y x b = record { object = object_of y.file; listed = b; encoder = encode
 unlisted_hand : (t : ℕ) (y : Slot) (x : SenderSession) → flagged y x (listed_but t y) ≡ Def.touched_hand t Def.Touch.remove (hand_of y x)
 unfolding Def.touched_hand Def.is
 unlisted_hand t y x = elim (eqb y.file.toi t) as (λ b. flagged y x (y.listed && not b) ≡ (when b then flagged y x false else hand_of y x))
-    [ true ↦ ap (flagged y x) (and_false y.listed) | false ↦ ap (flagged y x) (and_true y.listed) ]
+    [ true ↦ ap (flagged y x) (and-false y.listed) | false ↦ ap (flagged y x) (and-true y.listed) ]
 
 pub removed_desk : (s : Sender) → ValidSender s → (t : ℕ) → desk_of (with_list s (removed_of t s.fdt).fdt) ≡ Def.touched t Def.Touch.remove (desk_of s)
 unfolding Def.touched Def.is desk_of

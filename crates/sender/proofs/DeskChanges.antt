@@ -1,7 +1,7 @@
 -- A change of the list under the sender: what its sessions have in hand after it, that the sender stays valid, and the object with a number.
 use mathlib.Core.Path.{◌≡◌, refl, sym, ◌∙◌, ap, subst}
 use mathlib.Core.Bool.{Bool, true, false}
-use mathlib.Core.Option.{Option, none, some}
+use Rattle.std.specs.Prelude.{Option, None, Some}
 use mathlib.Core.List.{List, [], ◌∷◌, ◌++◌, map}
 use Prim.Native.Nat.{ℕ}
 use lib.Dec.{eqb}
@@ -40,7 +40,7 @@ map_through F G [] = refl
 map_through F G (a ∷ l) = ap (λ r. F (G a) ∷ r) (map_through F G l)
 
 -- each session in use has an object in hand, or nothing
-pub working_stands : (s : Sender) → ValidSender s → (i : ℕ) (x : SenderSession) → at (working s) i ≡ some x → Stands s.fdt s.window x
+pub working_stands : (s : Sender) → ValidSender s → (i : ℕ) (x : SenderSession) → at (working s) i ≡ Some x → Stands s.fdt s.window x
 working_stands s v i x e =
     let h = at_take s.sessions s.count i x e in
     subst (Stands s.fdt s.window) (sym (get_or-take s.count s.sessions i (idle_of 0) h) ∙ (at_get (idle_of 0) (working s) i x e).0) (v.sessions i h)
@@ -55,8 +55,8 @@ sessions_moved s v t g h =
     ∙ map_through (Def.in_hand g) (session_of s.fdt.slots) (working s)
   where
     both : (x : SenderSession) (b : Bool) → (b ≡ true → hand_of (slot_at t x.slot) x ≡ g (hand_of (slot_at s.fdt.slots x.slot) x))
-        → (when b then some (hand_of (slot_at t x.slot) x) else none) ≡ maybe none (λ y. some (g y)) (when b then some (hand_of (slot_at s.fdt.slots x.slot) x) else none)
-    both x true q = ap some (q refl)
+        → (when b then Some (hand_of (slot_at t x.slot) x) else None) ≡ maybe None (λ y. Some (g y)) (when b then Some (hand_of (slot_at s.fdt.slots x.slot) x) else None)
+    both x true q = ap Some (q refl)
     both x false q = refl
 
     one : (x : SenderSession) → Stands s.fdt s.window x → session_of t x ≡ Def.in_hand g (session_of s.fdt.slots x)
@@ -68,9 +68,9 @@ unfolding Def.in_hand
 in_hand_same [] = refl
 in_hand_same (x ∷ l) = λ i. record { priority = x.priority; hand = whole x.hand i } ∷ in_hand_same l i
   where
-    whole : (o : Option Hand) → maybe none (λ y. some y) o ≡ o
-    whole none = refl
-    whole (some y) = refl
+    whole : (o : Option Hand) → maybe None (λ y. Some y) o ≡ o
+    whole None = refl
+    whole (Some y) = refl
 
 -- where each slot in transfer is as it was, so is what sessions have in hand
 pub sessions_same : (s : Sender) → ValidSender s → (t : List Slot) → ((j : ℕ) → sends (slot_at s.fdt.slots j) ≡ true → slot_at t j ≡ slot_at s.fdt.slots j)
@@ -162,8 +162,8 @@ desk_moved s f q x k a b = λ i. record {
 
 -- one slot more
 listed_more : (y : Slot) (m : List Object) (l : List FileDesc) → m ≡ map object_of l
-    → maybe m (λ o. o ∷ m) (when y.listed then some (object_of y.file) else none) ≡ map object_of (maybe l (λ o. o ∷ l) (when y.listed then some y.file else none))
-listed_more y m l r = elim y.listed as (λ b. maybe m (λ o. o ∷ m) (when b then some (object_of y.file) else none) ≡ map object_of (maybe l (λ o. o ∷ l) (when b then some y.file else none)))
+    → maybe m (λ o. o ∷ m) (when y.listed then Some (object_of y.file) else None) ≡ map object_of (maybe l (λ o. o ∷ l) (when y.listed then Some y.file else None))
+listed_more y m l r = elim y.listed as (λ b. maybe m (λ o. o ∷ m) (when b then Some (object_of y.file) else None) ≡ map object_of (maybe l (λ o. o ∷ l) (when b then Some y.file else None)))
     [ true ↦ ap (λ k. object_of y.file ∷ k) r | false ↦ r ]
 
 -- the listed objects that sessions have in hand, by their slots
@@ -179,8 +179,8 @@ listed_in t (x ∷ l) = go x.busy (listed_in t l)
     m = Def.listed_in_hands (map (session_of t) l)
 
     go : (b : Bool) → m ≡ map object_of (listed_files t (collect slot_in l))
-        → maybe m (λ o. o ∷ m) (maybe none (λ (h : Hand). when h.listed then some h.object else none) (when b then some (hand_of y x) else none))
-        ≡ map object_of (listed_files t (maybe (collect slot_in l) (λ k. k ∷ collect slot_in l) (when b then some x.slot else none)))
+        → maybe m (λ o. o ∷ m) (maybe None (λ (h : Hand). when h.listed then Some h.object else None) (when b then Some (hand_of y x) else None))
+        ≡ map object_of (listed_files t (maybe (collect slot_in l) (λ k. k ∷ collect slot_in l) (when b then Some x.slot else None)))
     go true r = listed_more y m (listed_files t (collect slot_in l)) r
     go false r = r
 
@@ -196,8 +196,8 @@ listed_desk s t =
     ∙ find_map (Def.is t) object_of (a ++ b)
 
 given_over : {A B : Type 0} (f : A → B) (o : Option A) → given (over f o) ≡ given o
-given_over f none = refl
-given_over f (some a) = refl
+given_over f None = refl
+given_over f (Some a) = refl
 
 -- is one listed with the number
 pub listed_answer : (s : Sender) → ValidSender s → (t : ℕ) → given (Def.listed_as (desk_of s) t) ≡ given (listed_place t s.fdt)

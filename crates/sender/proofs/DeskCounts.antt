@@ -1,7 +1,7 @@
 -- The desk's numbers and objects, counted on the records: the numbers are the allocator's entries, the objects are the used slots.
 use mathlib.Core.Path.{◌≡◌, refl, sym, ◌∙◌, ap}
 use mathlib.Core.Bool.{Bool, true, false, not, ◌&&◌, ◌||◌}
-use mathlib.Core.Option.{Option, none, some}
+use Rattle.std.specs.Prelude.{Option, None, Some}
 use mathlib.Core.List.{List, [], ◌∷◌, ◌++◌, map}
 use Prim.Native.Nat.{ℕ, suc, ◌+◌, ◌<◌}
 use native.Mathlib.Omega.{arith}
@@ -37,12 +37,12 @@ use Rattle.sender.specs.declared.sender.Sender.{Sender}
 module _ {A : Type 0} (z : A) (p : A → Bool) (g : A → ℕ) (n : p z ≡ false) where
   -- the number of an element that passes
   abbrev number_in : A → Option ℕ
-  number_in a = when p a then some (g a) else none
+  number_in a = when p a then Some (g a) else None
 
   pub counts_times : (m : ℕ) (t : List A) (l : List ℕ) → Counts z p t l → times m (map (λ k. g (get_or t k z)) l) ≡ times m (collect number_in t)
   counts_times m t [] c = sym (nothing t (λ k. c k))
     where
-      no : (b : Bool) (k : ℕ) → 0 ≡ one_if b → (when b then some k else none) ≡ none
+      no : (b : Bool) (k : ℕ) → 0 ≡ one_if b → (when b then Some k else None) ≡ None
       no true k e = absurd (omega arith)
       no false k e = refl
 
@@ -81,8 +81,8 @@ unfolding in_hands
 hands_view t [] = refl
 hands_view t (x ∷ l) = elim x.busy
     as (λ b. maybe (in_hands (map (session_of t) l)) (λ o. o ∷ in_hands (map (session_of t) l))
-    (maybe none (λ (h : Hand). some h.object) (when b then some (hand_of (slot_at t x.slot) x) else none))
-    ≡ map (λ k. object_of (file_at t k)) (maybe (collect slot_in l) (λ k. k ∷ collect slot_in l) (when b then some x.slot else none)))
+    (maybe None (λ (h : Hand). Some h.object) (when b then Some (hand_of (slot_at t x.slot) x) else None))
+    ≡ map (λ k. object_of (file_at t k)) (maybe (collect slot_in l) (λ k. k ∷ collect slot_in l) (when b then Some x.slot else None)))
     [ true ↦ ap (λ r. object_of (file_at t x.slot) ∷ r) (hands_view t l) | false ↦ hands_view t l ]
 
 pub objects_view : (s : Sender) → objects (desk_of s) ≡ map (λ k. object_of (file_at s.fdt.slots k)) (owners s)

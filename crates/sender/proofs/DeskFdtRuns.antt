@@ -3,7 +3,7 @@ use Rattle.sizes.specs.declared.refusal.Refusal.{Refusal}
 use Rattle.sizes.specs.declared.refusal.Refusal.TheVariants as Because
 use mathlib.Core.Path.{◌≡◌, refl, sym, ◌∙◌, ap, subst}
 use mathlib.Core.Bool.{Bool, true, false, ◌||◌}
-use mathlib.Core.Option.{Option, none, some}
+use Rattle.std.specs.Prelude.{Option, None, Some}
 use mathlib.Core.List.{[], ◌∷◌}
 use Prim.Native.Nat.{ℕ}
 use lib.ListN.{get_or}
@@ -12,12 +12,11 @@ use Rattle.sizes.proofs.Tests.{if_on}
 use Rattle.lifecycle.specs.Lifecycle as Life
 use Rattle.lifecycle.specs.Setup.{Setup, bad_blocks}
 use Rattle.lifecycle.specs.Fdt.{bad_fdt_part}
-use Rattle.lifecycle.specs.Announce.{state_of, draft_given, bad_fdt_of}
+use Rattle.lifecycle.specs.Announce.{state_of, bad_fdt_of}
 use Rattle.lifecycle.specs.FdtCalls.{with_slots, with_published, with_announcer, real_draft, draft_test_of, next_fdt_of, fdt_done_of}
 use Rattle.lifecycle.specs.FdtCalls.{ValidFdt}
 use Rattle.lifecycle.specs.declared.parts.Part.{Part}
 use Rattle.lifecycle.specs.declared.announce.Announcer.{Announcer}
-use Rattle.lifecycle.specs.declared.announce.Draft.{Draft}
 use Rattle.lifecycle.specs.declared.fdt.Fdt.{Fdt}
 use Rattle.lifecycle.specs.declared.fdt.Settings.{Settings}
 use Rattle.lifecycle.proofs.FdtKeeps.{real_given, draft_test_as}
@@ -32,13 +31,12 @@ use Rattle.sender.specs.SessionCalls.{idle_of, Holds}
 use Rattle.sender.specs.FdtSessionCalls.{FdtHolds, FdtTries, left_of, fdt_begun_of, fdt_sent_by, fdt_sent_of, fdt_attempted_of, fdt_again_by, fdt_ran_of}
 use Rattle.sender.specs.SessionMeans.{Stands, fdt_of}
 use Rattle.sender.specs.SenderCalls.{working, slot_in, desk_of, Agrees, ValidSender, Kept, fdt_answer, answer_of, fdt_running_by, fdt_running_of}
-use Rattle.sender.specs.declared.blockencoder.Emitted.{Emitted}
-use Rattle.sender.specs.declared.blockencoder.Emitted.TheVariants as EmittedV
+use Rattle.sender.specs.declared.blockencoder.Symbol.{Symbol}
 use Rattle.sender.specs.declared.sendersession.SenderSession.{SenderSession}
 use Rattle.sender.specs.declared.sendersession.Outcome.{Outcome}
 use Rattle.sender.specs.declared.sendersession.Outcome.TheVariants.{Idle, Sent, Over}
 use Rattle.sender.specs.declared.fdtsession.FdtSession.{FdtSession}
-use Rattle.sender.specs.declared.fdtsession.FdtTurn.{FdtTurn}
+use Rattle.sender.specs.FdtSessionCalls.{FdtTurn}
 use Rattle.sender.specs.declared.sender.Sender.{Sender}
 use Rattle.sender.proofs.SessionLaws.{holds_next_fdt, holds_fdt_done}
 use Rattle.sender.proofs.FdtSessionLaws.{draft_looked}
@@ -51,8 +49,8 @@ use Rattle.sender.proofs.DeskPublish.{announced_desk, announced_stays}
 -- ---- what every step of a run keeps, the run keeps
 
 -- P is said of the list, and of whether an FDT is in hand
-module _ (w now : ℕ) (draft : Draft) (P : Fdt → Bool → Type 0)
-    (next : (d : Draft) (f : Fdt) → P f false → P (next_fdt_of now d f).fdt (next_fdt_of now d f).starts)
+module _ (w now : ℕ) (draft : Option Part) (P : Fdt → Bool → Type 0)
+    (next : (d : Option Part) (f : Fdt) → P f false → P (next_fdt_of now d f).fdt (next_fdt_of now d f).starts)
     (done : (f : Fdt) → P f true → P (fdt_done_of now f) false) where
   abbrev After : FdtTurn → Type 0
   After r = P r.fdt r.session.busy
@@ -61,9 +59,9 @@ module _ (w now : ℕ) (draft : Draft) (P : Fdt → Bool → Type 0)
   unfolding fdt_sent_of
   sent_on taken f x p = if_on After x.busy (λ e. by e (read_of false x.encoder).answer) (λ e. p)
     where
-      by : x.busy ≡ true → (a : Emitted) → After (fdt_sent_by now taken f x (read_of false x.encoder).encoder a)
-      by e EmittedV.Nothing = done f (subst (P f) e p)
-      by e (EmittedV.One s) = p
+      by : x.busy ≡ true → (a : Option Symbol) → After (fdt_sent_by now taken f x (read_of false x.encoder).encoder a)
+      by e None = done f (subst (P f) e p)
+      by e (Some s) = p
 
   -- what starts is in hand
   attempted_on : (taken : Bool) (f : Fdt) (x : FdtSession) → P f x.busy → After (fdt_attempted_of w now draft taken f x)
@@ -85,7 +83,7 @@ module _ (w now : ℕ) (draft : Draft) (P : Fdt → Bool → Type 0)
       again a q (Sent s) = q
 
 -- every held object is good
-ran_holds : (w now : ℕ) (draft : Draft) (f : Fdt) (x : FdtSession) → Holds f → Holds (fdt_ran_of w now draft f x).fdt
+ran_holds : (w now : ℕ) (draft : Option Part) (f : Fdt) (x : FdtSession) → Holds f → Holds (fdt_ran_of w now draft f x).fdt
 ran_holds w now draft = ran_on w now draft (λ f b. Holds f) (λ d f h. holds_next_fdt f h now d) (λ f h. holds_fdt_done f h now)
 
 -- ---- the current FDT is being transferred exactly while one is in hand
@@ -95,7 +93,7 @@ record Matched (f : Fdt) (busy : Bool) : Type 0 where
   valid : ValidFdt f
   matched : current_sends f.announcer ≡ busy
 
-pub ran_matched : (w now : ℕ) (draft : Draft) (f : Fdt) (x : FdtSession) → ValidFdt f → f.announcer.current.life.transferring ≡ x.busy
+pub ran_matched : (w now : ℕ) (draft : Option Part) (f : Fdt) (x : FdtSession) → ValidFdt f → f.announcer.current.life.transferring ≡ x.busy
     → (fdt_ran_of w now draft f x).fdt.announcer.current.life.transferring ≡ (fdt_ran_of w now draft f x).session.busy
 ran_matched w now draft f x v e = (ran_on w now draft Matched
     (λ d f m. record { valid = valid_next_fdt now d f m.valid; matched = next_fdt_sends now f m.valid d m.matched })
@@ -182,22 +180,22 @@ module _ (s : Sender) (v : ValidSender s) (f : Fdt) (y : FdtSession) (taken : Bo
 -- ---- the draft
 
 -- a draft of length 0 is none on both sides
-draft_view : (draft : Draft) → Def.draft_of (draft_given draft) ≡ draft_given (real_draft draft)
+draft_view : (draft : Option Part) → Def.draft_of draft ≡ real_draft draft
 unfolding Def.draft_of
 draft_view draft = sym (real_given draft)
 
 -- it is refused for the same
-refusal_view : (u : Setup) (s : Sender) → Agrees u s → (draft : Draft) → Def.draft_refusal u (desk_of s).fdt (draft_given draft) ≡ draft_test_of (real_draft draft) s.fdt
+refusal_view : (u : Setup) (s : Sender) → Agrees u s → (draft : Option Part) → Def.draft_refusal u (desk_of s).fdt draft ≡ draft_test_of (real_draft draft) s.fdt
 unfolding Def.draft_refusal desk_of
-refusal_view u s g draft = ap (maybe none said) (draft_view draft) ∙ by (draft_given (real_draft draft)) ∙ sym (draft_test_as (real_draft draft) s.fdt)
+refusal_view u s g draft = ap (maybe None said) (draft_view draft) ∙ by (real_draft draft) ∙ sym (draft_test_as (real_draft draft) s.fdt)
   where
     said : Part → Option Refusal
     said c = first_of ((Because.Sizes, bad_blocks u.sizes c.size) ∷ (Because.Part, bad_fdt_part u (state_of s.fdt.announcer) c) ∷ [])
 
-    by : (o : Option Part) → maybe none said o
-        ≡ maybe none (λ (c : Part). first_of ((Because.Sizes, bad_blocks s.fdt.settings.sizes c.size) ∷ (Because.Part, bad_fdt_of s.fdt.settings.fdt_store c s.fdt.announcer) ∷ [])) o
-    by none = refl
-    by (some c) = λ i. first_of ((Because.Sizes, bad_blocks (g.sizes i) c.size) ∷ (Because.Part, sym (bad_said c u s.fdt.settings.fdt_store s.fdt.announcer g.fdt_store) i) ∷ [])
+    by : (o : Option Part) → maybe None said o
+        ≡ maybe None (λ (c : Part). first_of ((Because.Sizes, bad_blocks s.fdt.settings.sizes c.size) ∷ (Because.Part, bad_fdt_of s.fdt.settings.fdt_store c s.fdt.announcer) ∷ [])) o
+    by None = refl
+    by (Some c) = λ i. first_of ((Because.Sizes, bad_blocks (g.sizes i) c.size) ∷ (Because.Part, sym (bad_said c u s.fdt.settings.fdt_store s.fdt.announcer g.fdt_store) i) ∷ [])
 
 -- ---- the call
 
@@ -227,21 +225,21 @@ valid_stands : (s : Sender) → ValidSender s → FdtStands s.fdt s.window s.fdt
 valid_stands s v = record { busy = v.fdt_busy; idle = v.fdt_idle }
 
 -- it may be run with a draft that passes the test
-pub tries_ready : (s : Sender) (draft : Draft) → ValidSender s → draft_test_of (real_draft draft) s.fdt ≡ none → FdtTries s.fdt s.window (real_draft draft) s.fdt_session
+pub tries_ready : (s : Sender) (draft : Option Part) → ValidSender s → draft_test_of (real_draft draft) s.fdt ≡ None → FdtTries s.fdt s.window (real_draft draft) s.fdt_session
 tries_ready s draft v e =
     stands_tries s.fdt s.window (real_draft draft) s.fdt_session v.fdt_holds v.narrow (draft_looked (real_draft draft) s.fdt v.fdt_store e) (valid_stands s v)
 
-module _ (s : Sender) (now : ℕ) (draft : Draft) (v : ValidSender s) where
+module _ (s : Sender) (now : ℕ) (draft : Option Part) (v : ValidSender s) where
   -- what comes of a run
   abbrev runs : FdtTurn
   runs = fdt_ran_of s.window now (real_draft draft) s.fdt s.fdt_session
 
-  module _ (e : draft_test_of (real_draft draft) s.fdt ≡ none) where
-    runs_means : (u : Setup) → SetFor u s.window s.fdt.settings → FdtTurns s.window s.fdt (fdt_run u now (draft_given (real_draft draft)) (desk_of s).fdt) runs
+  module _ (e : draft_test_of (real_draft draft) s.fdt ≡ None) where
+    runs_means : (u : Setup) → SetFor u s.window s.fdt.settings → FdtTurns s.window s.fdt (fdt_run u now (real_draft draft) (desk_of s).fdt) runs
     unfolding desk_of
     runs_means u set = fdt_ran_means u s.window now (real_draft draft) s.fdt s.fdt_session set (tries_ready s draft v e) (valid_stands s v)
 
-    run_done : Kept s (Def.Call.run_fdt now (draft_given draft)) (fdt_answer runs.taken (answer_of true 0 runs.session.id runs.answer)) (onward s runs.fdt runs.session)
+    run_done : Kept s (Def.Call.run_fdt now draft) (fdt_answer runs.taken (answer_of true 0 runs.session.id runs.answer)) (onward s runs.fdt runs.session)
     unfolding Def.step Def.fdt_ran
     run_done =
         let t = runs_means (set_up_of s.window s.fdt.settings) (record { window = refl; sizes = refl; validity = refl; carousel = refl }) in
@@ -257,21 +255,21 @@ module _ (s : Sender) (now : ℕ) (draft : Draft) (v : ValidSender s) where
               (ran_matched s.window now (real_draft draft) s.fdt s.fdt_session v.holds.valid v.matched);
         }
 
-  run_refused : (why : Refusal) → draft_test_of (real_draft draft) s.fdt ≡ some why → Kept s (Def.Call.run_fdt now (draft_given draft)) (Def.Answer.refused why) s
+  run_refused : (why : Refusal) → draft_test_of (real_draft draft) s.fdt ≡ Some why → Kept s (Def.Call.run_fdt now draft) (Def.Answer.refused why) s
   unfolding Def.step
   run_refused why e = record {
-    means = λ u g. (λ i. Def.unless ((refusal_view u s g draft ∙ e) i) (desk_of s) (Def.fdt_ran u now (Def.draft_of (draft_given draft)) (desk_of s)));
+    means = λ u g. (λ i. Def.unless ((refusal_view u s g draft ∙ e) i) (desk_of s) (Def.fdt_ran u now (Def.draft_of draft) (desk_of s)));
     agrees = λ u g. g;
     valid = v;
   }
 
 -- refusals 4 and 5 in their order; else it is run
-pub run_fdt_kept : (s : Sender) (now : ℕ) (draft : Draft) → ValidSender s
-    → Kept s (Def.Call.run_fdt now (draft_given draft)) (fdt_answer (fdt_running_of now draft s).taken (fdt_running_of now draft s).answer) (fdt_running_of now draft s).sender
+pub run_fdt_kept : (s : Sender) (now : ℕ) (draft : Option Part) → ValidSender s
+    → Kept s (Def.Call.run_fdt now draft) (fdt_answer (fdt_running_of now draft s).taken (fdt_running_of now draft s).answer) (fdt_running_of now draft s).sender
 unfolding fdt_running_of
 run_fdt_kept s now draft v = by (draft_test_of (real_draft draft) s.fdt) refl
   where
     by : (o : Option Refusal) → draft_test_of (real_draft draft) s.fdt ≡ o
-        → (let r = fdt_running_by now (real_draft draft) s o in Kept s (Def.Call.run_fdt now (draft_given draft)) (fdt_answer r.taken r.answer) r.sender)
-    by none e = run_done s now draft v e
-    by (some why) e = run_refused s now draft v why e
+        → (let r = fdt_running_by now (real_draft draft) s o in Kept s (Def.Call.run_fdt now draft) (fdt_answer r.taken r.answer) r.sender)
+    by None e = run_done s now draft v e
+    by (Some why) e = run_refused s now draft v why e

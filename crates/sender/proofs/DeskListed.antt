@@ -1,6 +1,6 @@
 -- The calls that only look: listed and transfers.
 use mathlib.Core.Path.{◌≡◌, refl, sym, ◌∙◌, ap}
-use mathlib.Core.Option.{Option, none, some}
+use Rattle.std.specs.Prelude.{Option, None, Some}
 use mathlib.Core.List.{◌++◌}
 use Prim.Native.Nat.{ℕ}
 use lib.Dec.{eqb}
@@ -24,15 +24,15 @@ module _ (s : Sender) (v : ValidSender s) (t : ℕ) where
   listed_kept = record { means = λ u w. ap (λ b. (Answer.truth b, desk_of s)) (listed_answer s v t ∙ sym (is_added_as t s.fdt)); agrees = λ u w. w; valid = v }
 
   -- its total
-  transfers_answer : maybe none (λ (o : Object). some o.life.total) (listed_as (desk_of s) t) ≡ transfers_of t s.fdt
+  transfers_answer : maybe None (λ (o : Object). Some o.life.total) (listed_as (desk_of s) t) ≡ transfers_of t s.fdt
   transfers_answer =
-      ap (maybe none (λ (o : Object). some o.life.total)) (listed_desk s t)
+      ap (maybe None (λ (o : Object). Some o.life.total)) (listed_desk s t)
       ∙ go (find (λ (o : FileDesc). eqb o.toi t) (files s.fdt ++ listed_files s.fdt.slots (collect slot_in (working s))))
       ∙ sym (transfers_listed t s.fdt v.holds.valid (collect slot_in (working s)) v.in_hand)
     where
-      go : (o : Option FileDesc) → maybe none (λ (o : Object). some o.life.total) (over object_of o) ≡ maybe none (λ (o : FileDesc). some (life_of o.life).total) o
-      go none = refl
-      go (some o) = refl
+      go : (o : Option FileDesc) → maybe None (λ (o : Object). Some o.life.total) (over object_of o) ≡ maybe None (λ (o : FileDesc). Some (life_of o.life).total) o
+      go None = refl
+      go (Some o) = refl
 
   pub transfers_kept : Kept s (Call.ask (Question.transfers t)) (Answer.transferred (transfers_of t s.fdt)) s
   unfolding step

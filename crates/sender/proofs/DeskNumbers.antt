@@ -10,16 +10,16 @@ use Rattle.sizes.specs.Words.{when◌then◌else◌, has, first_of}
 use Rattle.sizes.specs.Limits.{toi_entries}
 use Rattle.sizes.specs.Allocator as Alloc
 use Rattle.sizes.specs.declared.toiallocator.ToiAllocator.{ToiAllocator}
-use Rattle.sizes.specs.declared.toiallocator.Allocated.{Allocated}
-use Rattle.sizes.specs.declared.toiallocator.Changed.{Changed}
+use Rattle.sizes.specs.Allocator.{Allocated}
+use Rattle.sizes.specs.Allocator.{Changed}
 use Rattle.sizes.proofs.Tests.{Tested, pass, fail, tested}
 use Rattle.sizes.proofs.AllocatorLaws.{given_fresh, full_by}
 use Rattle.sizes.proofs.AllocatorViews.{allocated_room, loose_reserved, released_view, released_none, allocated_width, dropped_width, released_some}
 use Rattle.lifecycle.specs.Setup.{Setup}
 use Rattle.lifecycle.specs.FdtCalls.{with_tois}
 use Rattle.lifecycle.specs.declared.fdt.Fdt.{Fdt}
-use Rattle.lifecycle.specs.declared.fdt.Reserved.{Reserved}
-use Rattle.lifecycle.specs.declared.fdt.Released.{Released}
+use Rattle.lifecycle.specs.FdtCalls.{Reserved}
+use Rattle.lifecycle.specs.FdtCalls.{Released}
 use Rattle.lifecycle.proofs.FdtKeeps.{reserved_as, released_as}
 use Rattle.definition.specs.Desk.{reserve_refusal, release_refusal, Call, Answer, Result, unless, step, not_loose, numbered, reserved, unloosed}
 use Rattle.sender.specs.SessionCalls.{Holds}

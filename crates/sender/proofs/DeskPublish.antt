@@ -3,7 +3,7 @@ use Rattle.sizes.specs.declared.refusal.Refusal.{Refusal}
 use Rattle.sizes.specs.declared.refusal.Refusal.TheVariants as Because
 use mathlib.Core.Path.{◌≡◌, refl, sym, ◌∙◌, ap, subst}
 use mathlib.Core.Bool.{Bool, true, false, ◌||◌}
-use mathlib.Core.Option.{Option, none, some}
+use Rattle.std.specs.Prelude.{Option, None, Some}
 use mathlib.Core.List.{[], ◌∷◌, map}
 use Prim.Native.Nat.{ℕ, ◌<◌}
 use lib.Dec.{eqb, leb}
@@ -15,7 +15,7 @@ use Rattle.lifecycle.specs.Setup.{Setup, bad_blocks}
 use Rattle.lifecycle.specs.FileDesc.{pace_said}
 use Rattle.lifecycle.specs.Slots.{slot_at, published_slot}
 use Rattle.lifecycle.specs.Announce.{state_of, queued_of}
-use Rattle.lifecycle.specs.FdtCalls.{files, sends, with_slots, with_published, publication_said}
+use Rattle.lifecycle.specs.FdtCalls.{files, sends, with_slots, with_published}
 use Rattle.lifecycle.proofs.FdtMeans.{published_file}
 use Rattle.lifecycle.specs.declared.parts.Part.{Part}
 use Rattle.lifecycle.specs.declared.filedesc.FileDesc.{FileDesc}
@@ -23,7 +23,7 @@ use Rattle.lifecycle.specs.declared.slots.Slot.{Slot}
 use Rattle.lifecycle.specs.declared.announce.Instance.{Instance}
 use Rattle.lifecycle.specs.declared.announce.Announcer.{Announcer}
 use Rattle.lifecycle.specs.declared.fdt.Fdt.{Fdt}
-use Rattle.lifecycle.specs.declared.fdt.Published.{Published}
+use Rattle.lifecycle.specs.FdtCalls.{Published}
 use Rattle.lifecycle.proofs.FileDescLaws.{life_published}
 use Rattle.lifecycle.proofs.AnnounceLaws.{waiting_length, state_queued, bad_said}
 use Rattle.lifecycle.proofs.FdtKeeps.{marks_slot, publish_refusal_of, publishable, published_by, publish_as, queued_current}
@@ -105,7 +105,7 @@ refusal_view u s v g c = λ i. first_of
     ∷ [])
 
 module _ (s : Sender) (now : ℕ) (c : Part) (v : ValidSender s) where
-  publish_refused : (n : Refusal) → ((u : Setup) → Agrees u s → Def.publish_refusal u (desk_of s).fdt c ≡ some n) → Kept s (Def.Call.publish now c) (Def.Answer.refused n) s
+  publish_refused : (n : Refusal) → ((u : Setup) → Agrees u s → Def.publish_refusal u (desk_of s).fdt c ≡ Some n) → Kept s (Def.Call.publish now c) (Def.Answer.refused n) s
   unfolding Def.step
   publish_refused n h = record {
     means = λ u g. ap (λ o. Def.unless o (desk_of s) (Def.Answer.done, Def.all_published (Def.with_fdt (desk_of s) (fdt_published now c (desk_of s).fdt)))) (h u g);
@@ -113,7 +113,7 @@ module _ (s : Sender) (now : ℕ) (c : Part) (v : ValidSender s) where
     valid = v;
   }
 
-  publish_done : ((u : Setup) → Agrees u s → Def.publish_refusal u (desk_of s).fdt c ≡ none) → s.fdt.announcer.waiting < waiting_fdts
+  publish_done : ((u : Setup) → Agrees u s → Def.publish_refusal u (desk_of s).fdt c ≡ None) → s.fdt.announcer.waiting < waiting_fdts
       → Holds (with_published s.fdt (queued_of now c s.fdt.announcer)) → FdtHolds (with_published s.fdt (queued_of now c s.fdt.announcer))
       → Kept s (Def.Call.publish now c) Def.Answer.done (with_list s (with_published s.fdt (queued_of now c s.fdt.announcer)))
   unfolding Def.step fdt_published desk_of
@@ -132,13 +132,13 @@ module _ (s : Sender) (now : ℕ) (c : Part) (v : ValidSender s) where
 
   -- refusals 4, 5 and 7 in their order; else it is done
   pub publish_kept : Holds (publishing_of now c s).sender.fdt → FdtHolds (publishing_of now c s).sender.fdt
-      → Kept s (Def.Call.publish now c) (alloc_answer (publication_said (publishing_of now c s).answer)) (publishing_of now c s).sender
+      → Kept s (Def.Call.publish now c) (alloc_answer (Alloc.known_said (publishing_of now c s).answer)) (publishing_of now c s).sender
   unfolding publishing_of
   publish_kept = subst Goes (sym (publish_as c s.fdt now)) (by (publish_refusal_of c s.fdt) refl)
     where
       Goes : Published → Type 0
-      Goes r = Holds r.fdt → FdtHolds r.fdt → Kept s (Def.Call.publish now c) (alloc_answer (publication_said r.answer)) (with_list s r.fdt)
+      Goes r = Holds r.fdt → FdtHolds r.fdt → Kept s (Def.Call.publish now c) (alloc_answer (Alloc.known_said r.answer)) (with_list s r.fdt)
 
       by : (o : Option Refusal) → publish_refusal_of c s.fdt ≡ o → Goes (published_by c s.fdt now o)
-      by (some why) e a b = publish_refused why (λ u g. refusal_view u s v g c ∙ e)
-      by none e a b = publish_done (λ u g. refusal_view u s v g c ∙ e) (publishable c s.fdt e).room a b
+      by (Some why) e a b = publish_refused why (λ u g. refusal_view u s v g c ∙ e)
+      by None e a b = publish_done (λ u g. refusal_view u s v g c ∙ e) (publishable c s.fdt e).room a b

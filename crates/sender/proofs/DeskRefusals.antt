@@ -2,7 +2,7 @@
 use Rattle.sizes.specs.declared.refusal.Refusal.TheVariants as Because
 use mathlib.Core.Path.{◌≡◌, refl, sym, ◌∙◌, ap}
 use mathlib.Core.Bool.{Bool, true, false, not, ◌&&◌, ◌||◌}
-use mathlib.Core.Option.{some}
+use Rattle.std.specs.Prelude.{Option, None, Some}
 use mathlib.Core.List.{[], ◌∷◌}
 use Prim.Native.Nat.{ℕ}
 use lib.Dec.{eqb, leb}
@@ -19,17 +19,13 @@ use Rattle.lifecycle.specs.FdtCalls.{used, own_of, bad_part_of, refusal, added_o
 use Rattle.lifecycle.proofs.FdtMeans.{unknown, full}
 use Rattle.lifecycle.specs.declared.parts.Part.{Part}
 use Rattle.lifecycle.specs.declared.slots.Slot.{Slot}
-use Rattle.lifecycle.specs.declared.fdt.Own.{Own}
-use Rattle.lifecycle.specs.declared.fdt.Own.TheVariants as OwnV
-use Rattle.lifecycle.specs.declared.fdt.Named.{Named}
-use Rattle.lifecycle.specs.declared.fdt.Named.TheVariants as NamedV
 use Rattle.lifecycle.proofs.FdtSearches.{bad_part_used}
 use Rattle.lifecycle.proofs.FdtKeeps.{own_given, own_set_up}
 use Rattle.lifecycle.proofs.FdtAdds.{refusal_view}
 use Rattle.definition.specs.Session as DefS
 use Rattle.definition.specs.Desk as Def
 use Rattle.sender.specs.SessionCalls.{object_of, session_of}
-use Rattle.sender.specs.SenderCalls.{working, desk_of, Agrees, ValidSender, named_said, own_said, object_said, has_priority, request_of}
+use Rattle.sender.specs.SenderCalls.{working, desk_of, Agrees, ValidSender, object_said, has_priority, request_of}
 use Rattle.sender.specs.declared.sender.Sender.{Sender}
 use Rattle.sender.specs.declared.sender.Object.{Object}
 use Rattle.sender.proofs.DeskCounts.{owners, objects_view, owners_used, full_slots, full_view}
@@ -44,9 +40,9 @@ pub own_view : (u : Setup) (z : Sizes) → u.sizes ≡ z → (o : Object) → De
 unfolding Def.own_sizes
 own_view u z e o = go o.own
   where
-    go : (w : Own) → maybe u.sizes (λ z. z) (own_said w) ≡ own_of w z
-    go (OwnV.Sizes y) = sym (own_given y z)
-    go OwnV.SetUp = e ∙ sym (own_set_up z)
+    go : (w : Option Sizes) → maybe u.sizes (λ z. z) w ≡ own_of w z
+    go (Some y) = sym (own_given y z)
+    go None = e ∙ sym (own_set_up z)
 
 -- refusal 5
 pub part_view : (u : Setup) (s : Sender) → Agrees u s → ValidSender s → (c : Part) → Def.bad_object_part u (desk_of s) c ≡ bad_part_of s.fdt c
@@ -58,25 +54,25 @@ part_view u s a v c =
     (λ i. past_store (a.object_store i) c || held i) ∙ sym (bad_part_used s.fdt v.holds.valid c)
 
 -- refusal 6
-pub not_loose_view : (s : Sender) (named : Named) → Def.not_loose (desk_of s) (named_said named) ≡ unknown named s.fdt
+pub not_loose_view : (s : Sender) (named : Option ℕ) → Def.not_loose (desk_of s) named ≡ unknown named s.fdt
 unfolding Def.not_loose desk_of
-not_loose_view s (NamedV.Toi t) = refl
-not_loose_view s NamedV.Anew = refl
+not_loose_view s (Some t) = refl
+not_loose_view s None = refl
 
 -- refusal 7
-pub no_room_view : (s : Sender) → ValidSender s → (named : Named) → Def.no_room (desk_of s) (named_said named) ≡ full named s.fdt
+pub no_room_view : (s : Sender) → ValidSender s → (named : Option ℕ) → Def.no_room (desk_of s) named ≡ full named s.fdt
 unfolding Def.no_room
-no_room_view s v (NamedV.Toi t) = or_nothing (leb object_slots (length (Def.objects (desk_of s)))) ∙ full_slots s v
+no_room_view s v (Some t) = or_nothing (leb object_slots (length (Def.objects (desk_of s)))) ∙ full_slots s v
   where
     or_nothing : (b : Bool) → (b || false) ≡ b
     or_nothing true = refl
     or_nothing false = refl
-no_room_view s v NamedV.Anew = λ i. full_slots s v i || full_view s v i
+no_room_view s v None = λ i. full_slots s v i || full_view s v i
 
 -- the table: 2, and then the list's own
-pub add_refusal_view : (u : Setup) (s : Sender) → Agrees u s → ValidSender s → (o : Object) (named : Named)
-    → Def.add_refusal u (desk_of s) (named_said named) (object_said o)
-    ≡ (when not (any (has_priority o.priority) (working s)) then some Because.NoPriority else refusal (added_of s.fdt (request_of o) named).answer)
+pub add_refusal_view : (u : Setup) (s : Sender) → Agrees u s → ValidSender s → (o : Object) (named : Option ℕ)
+    → Def.add_refusal u (desk_of s) named (object_said o)
+    ≡ (when not (any (has_priority o.priority) (working s)) then Some Because.NoPriority else refusal (added_of s.fdt (request_of o) named).answer)
 unfolding Def.add_refusal desk_of request_of
 add_refusal_view u s a v o named =
     (λ i. first_of
@@ -87,4 +83,4 @@ add_refusal_view u s a v o named =
     ∷ (Because.NotLoose, not_loose_view s named i)
     ∷ (Because.Full, no_room_view s v named i)
     ∷ []))
-    ∙ ap (λ r. when not (any (has_priority o.priority) (working s)) then some Because.NoPriority else r) (sym (refusal_view s.fdt (request_of o) named))
+    ∙ ap (λ r. when not (any (has_priority o.priority) (working s)) then Some Because.NoPriority else r) (sym (refusal_view s.fdt (request_of o) named))

@@ -2,7 +2,7 @@
 use Rattle.sizes.specs.declared.refusal.Refusal.TheVariants as Because
 use mathlib.Core.Path.{◌≡◌, refl, sym, ◌∙◌, ap, subst}
 use mathlib.Core.Bool.{Bool, true, false, ◌&&◌}
-use mathlib.Core.Option.{none, some}
+use Rattle.std.specs.Prelude.{Option, None, Some}
 use mathlib.Core.List.{List, [], ◌∷◌, map}
 use Prim.Native.Nat.{ℕ, zero, suc, ◌<◌, ◌≤◌}
 use native.Mathlib.Omega.{arith}
@@ -21,8 +21,6 @@ use Rattle.lifecycle.specs.Setup.{Setup}
 use Rattle.lifecycle.specs.Slots.{no_slot, slot_at}
 use Rattle.lifecycle.specs.Announce.{state_of, waits_of}
 use Rattle.lifecycle.specs.FdtCalls.{sends, taken_of}
-use Rattle.sizes.specs.declared.place.Place.{Place}
-use Rattle.sizes.specs.declared.place.Place.TheVariants as PlaceV
 use Rattle.lifecycle.specs.declared.fdt.Fdt.{Fdt}
 use Rattle.lifecycle.specs.declared.announce.Announcer.{Announcer}
 use Rattle.lifecycle.proofs.AnnounceLaws.{waits_said}
@@ -36,9 +34,9 @@ use Rattle.sender.specs.SenderCalls.{working, desk_of, Agrees, slot_in, ValidSen
 use Rattle.sender.specs.declared.sendersession.SenderSession.{SenderSession}
 use Rattle.sender.specs.declared.sendersession.Outcome.{Outcome}
 use Rattle.sender.specs.declared.sendersession.Outcome.TheVariants.{Idle, Sent, Over}
-use Rattle.sender.specs.declared.sendersession.Turn.{Turn}
+use Rattle.sender.specs.SessionCalls.{Turn}
 use Rattle.sender.specs.declared.sender.Sender.{Sender}
-use Rattle.sender.specs.declared.sender.Running.{Running}
+use Rattle.sender.specs.SenderCalls.{Running}
 use Rattle.sender.proofs.SessionFacts.{stands_runs, has_slot, packet_said, turn_of, SameSide, FileRuns}
 use Rattle.sender.proofs.SessionViews.{ran_means, ran_hand, ran_counts, ran_stands, ran_session}
 use Rattle.sender.proofs.FdtSessionLaws.{fdt_holds_over}
@@ -61,9 +59,9 @@ taken_on_width : (w now : ℕ) (f : Fdt) (x : SenderSession) → (taken_on_of w 
 unfolding taken_on_of
 taken_on_width w now f x = go (taken_of x.priority now f).fdt (taken_of x.priority now f).answer ∙ (taken_keeps f x.priority now).width
   where
-    go : (t : Fdt) (a : Place) → (taken_by w now t x a).fdt.tois.width ≡ t.tois.width
-    go t PlaceV.Nothing = refl
-    go t (PlaceV.At k) = attended_width now t _
+    go : (t : Fdt) (a : Option ℕ) → (taken_by w now t x a).fdt.tois.width ≡ t.tois.width
+    go t None = refl
+    go t (Some k) = attended_width now t _
 
 pub ran_width : (w now : ℕ) (f : Fdt) (x : SenderSession) → (ran_of w now f x).fdt.tois.width ≡ f.tois.width
 unfolding ran_of
@@ -87,13 +85,13 @@ at_other (b ∷ l) (suc i) zero a n = refl
 at_other (b ∷ l) (suc i) (suc j) a n = at_other l i j a (λ e. n (ap suc e))
 
 -- one element is new; of the others f and g say the same
-map_one : {A B : Type 0} (f g : A → B) (l : List A) (i : ℕ) (a : A) → ((j : ℕ) (b : A) → at l j ≡ some b → (i ≡ j → ⊥) → f b ≡ g b) → map f (set l i a) ≡ set (map g l) i (f a)
+map_one : {A B : Type 0} (f g : A → B) (l : List A) (i : ℕ) (a : A) → ((j : ℕ) (b : A) → at l j ≡ Some b → (i ≡ j → ⊥) → f b ≡ g b) → map f (set l i a) ≡ set (map g l) i (f a)
 map_one f g [] i a h = refl
 map_one f g (b ∷ l) zero a h = ap (λ r. f a ∷ r) (map_at f g l (λ j c e. h (suc j) c e (λ q. omega arith)))
 map_one f g (b ∷ l) (suc i) a h = λ k. h 0 b refl (λ q. omega arith) k ∷ map_one f g l i a (λ j c e n. h (suc j) c e (λ q. n (omega arith))) k
 
 -- past the first n elements there is none
-at_past : {A : Type 0} (l : List A) (n i : ℕ) → n ≤ i → at (take n l) i ≡ none
+at_past : {A : Type 0} (l : List A) (n i : ℕ) → n ≤ i → at (take n l) i ≡ None
 at_past l zero i h = refl
 at_past [] (suc n) i h = refl
 at_past (a ∷ l) (suc n) zero h = absurd (omega arith)
@@ -103,7 +101,7 @@ at_past (a ∷ l) (suc n) (suc i) h = at_past l n i (omega arith)
 
 -- what a session adds to the slots in hand
 hand_adds : (x : SenderSession) (j : ℕ) → adds j (slot_in x) ≡ one_if (has_slot x j)
-hand_adds x j = elim x.busy as (λ b. adds j (when b then some x.slot else none) ≡ one_if (b && eqb x.slot j)) [ true ↦ refl | false ↦ refl ]
+hand_adds x j = elim x.busy as (λ b. adds j (when b then Some x.slot else None) ≡ one_if (b && eqb x.slot j)) [ true ↦ refl | false ↦ refl ]
 
 -- the definition's answer is that of the code
 answer_said : (toi : ℕ) (a : Outcome) → Def.Answer.output (packet_said toi a) ≡ file_answer (answer_of false toi 0 a)
@@ -147,20 +145,20 @@ module _ (s : Sender) (v : ValidSender s) (i now : ℕ) (h : i < s.count) where
   inn = let a = v.few in let b = v.long in omega arith
 
   -- the sessions in use, one by one
-  at_in : (j : ℕ) → j < s.count → at (working s) j ≡ some (get_or s.sessions j (idle_of 0))
+  at_in : (j : ℕ) → j < s.count → at (working s) j ≡ Some (get_or s.sessions j (idle_of 0))
   at_in j b =
       let a = v.few in let c = v.long in
       let d : j < length (working s) = rw (length-take-le s.count s.sessions (omega arith)) b in
-      at_inside (idle_of 0) (working s) j d ∙ ap some (get_or-take s.count s.sessions j (idle_of 0) b)
+      at_inside (idle_of 0) (working s) j d ∙ ap Some (get_or-take s.count s.sessions j (idle_of 0) b)
 
-  at_i : at (working s) i ≡ some x
+  at_i : at (working s) i ≡ Some x
   at_i = at_in i h
 
   working_set : working s' ≡ set (working s) i r.session
   working_set = take-set-lt s.count s.sessions i r.session h
 
   -- what another session has in hand is not this one's: a slot is in one hand
-  other : (j : ℕ) (z : SenderSession) → at (working s) j ≡ some z → (i ≡ j → ⊥) → z.busy ≡ true → has_slot x z.slot ≡ false
+  other : (j : ℕ) (z : SenderSession) → at (working s) j ≡ Some z → (i ≡ j → ⊥) → z.busy ≡ true → has_slot x z.slot ≡ false
   other j z e n b = go (tested (has_slot x k))
     where
       k : ℕ
@@ -171,7 +169,7 @@ module _ (s : Sender) (v : ValidSender s) (i now : ℕ) (h : i < s.count) where
       go (pass q) = absurd (
           let l = set (working s) i (idle_of 0) in
           let a = collect_set slot_in k (working s) i x (idle_of 0) at_i in
-          let c = collect_at slot_in l j z k (at_other (working s) i j (idle_of 0) n ∙ e) (ap (λ t. when t then some k else none) b) in
+          let c = collect_at slot_in l j z k (at_other (working s) i j (idle_of 0) n ∙ e) (ap (λ t. when t then Some k else None) b) in
           let d = hand_adds x k ∙ ap one_if q in
           let m = v.in_hand k in
           let o = at_most (sends (slot_at s.fdt.slots k)) in omega arith)

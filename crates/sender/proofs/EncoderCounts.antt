@@ -2,7 +2,7 @@
 use mathlib.Core.Logic.{inr, ⊎_elim}
 use mathlib.Core.Path.{◌≡◌, refl, sym, ◌∙◌, ap, subst}
 use mathlib.Core.Bool.{Bool, true, false}
-use mathlib.Core.Option.{some}
+use Rattle.std.specs.Prelude.{Some}
 use mathlib.Core.List.{List, [], ◌∷◌, ◌++◌}
 use Prim.Native.Nat.{ℕ, zero, suc, ◌+◌, ◌≤◌, ◌<◌}
 use native.Mathlib.Omega.{arith}
@@ -31,7 +31,7 @@ module _ {A : Type 0} (p : A → Bool) where
   tally_append (x ∷ a) b = let h = tally_append a b in omega arith
 
   -- one place left out
-  tally_cut : (l : List A) (i : ℕ) (a : A) → at l i ≡ some a → tally p l ≡ one_if (p a) + tally p (cut l i)
+  tally_cut : (l : List A) (i : ℕ) (a : A) → at l i ≡ Some a → tally p l ≡ one_if (p a) + tally p (cut l i)
   tally_cut [] i a e = absurd (none≢some e)
   tally_cut (b ∷ l) zero a e = let s : b ≡ a = cc in let c = ap (λ x. one_if (p x)) s in omega arith
   tally_cut (b ∷ l) (suc i) a e = let h = tally_cut l i a e in omega arith
@@ -158,3 +158,6 @@ valid_ready x v = valid_settled (drained_count (filled_of x)) (filled_of x) (val
 pub ready_free : (x : BlockEncoder) → ValidEncoder x → stuck (ready_of x) ≡ false
 unfolding ready_of
 ready_free x v = settled_free (filled_of x) (valid_filled x v)
+
+-- what taking drained blocks out is proved by
+pub ruleset draining = (stuck_some, valid_filled, valid_without, valid_next, count_less, settled_more, settled_end)

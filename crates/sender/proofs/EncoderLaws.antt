@@ -157,3 +157,6 @@ valid_without x v h =
           (below_or i (place_to_visit x));
       clear = λ i g. getD_shut no_open x.window (place_to_visit x) i (omega arith) ∙ v.clear (suc i) (omega arith);
     }
+
+-- what filling the window is proved by
+pub ruleset filling = (valid_one, missing_less, filled_more, filled_none)

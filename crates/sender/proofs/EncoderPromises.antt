@@ -1,6 +1,7 @@
 -- What specs/EncoderPromises says of each packet holds; and a new encoder is one of its object.
 use mathlib.Core.Path.{◌≡◌, refl, sym, ap, subst}
-use mathlib.Core.Bool.{Bool, true, false, not, ◌||◌, true≢false}
+use mathlib.Core.Bool.{Bool, false, not, ◌||◌}
+use Rattle.std.specs.Prelude.{Option, None, Some}
 use Prim.Native.Nat.{ℕ, zero, suc, ◌+◌, ◌≤◌, ◌<◌}
 use native.Mathlib.Nat.{mul-le-mul_right, one-mul}
 use native.Mathlib.Omega.{arith}
@@ -10,19 +11,16 @@ use borrow.Author.Tests.{eqb-true, eqb-false, not-false}
 use Rattle.sizes.specs.Limits.{largest_window}
 use Rattle.sizes.specs.Partition.{symbols_of}
 use Rattle.sizes.specs.declared.partition.Sizes.{Sizes}
-use Rattle.sizes.proofs.Tests.{or_right, if_on}
+use Rattle.sizes.proofs.Tests.{none≢some, or_right, if_on}
 use Rattle.sizes.proofs.Arithmetic.{one_more}
 use Rattle.sizes.proofs.PartitionLaws.{parted_bytes}
 use Rattle.lifecycle.specs.declared.parts.Part.{Part}
 use Rattle.definition.specs.Encoder as Def
-use Rattle.sender.specs.EncoderCalls.{Sound, ValidEncoder, no_open, encoder_of, new_of, place_to_visit, stuck, ready_of, offset_of, visit_of, emptied_of, stopping_of, emitted_of, read_of}
+use Rattle.sender.specs.EncoderCalls.{Read, Sound, ValidEncoder, no_open, encoder_of, new_of, place_to_visit, stuck, ready_of, offset_of, visit_of, emptied_of, stopping_of, emitted_of, read_of}
 use Rattle.sender.specs.EncoderPromises.{OfBlock, Shown, Carried, named}
 use Rattle.sender.specs.declared.blockencoder.Content.{Content}
 use Rattle.sender.specs.declared.blockencoder.BlockEncoder.{BlockEncoder}
 use Rattle.sender.specs.declared.blockencoder.Symbol.{Symbol}
-use Rattle.sender.specs.declared.blockencoder.Emitted.{Emitted}
-use Rattle.sender.specs.declared.blockencoder.Emitted.TheVariants.{One, Nothing}
-use Rattle.sender.specs.declared.blockencoder.Read.{Read}
 use Rattle.sender.proofs.EncoderLaws.{place_inside}
 use Rattle.sender.proofs.EncoderViews.{free_visited, valid_flags}
 use Rattle.sender.proofs.EncoderCounts.{ready_content, valid_ready, ready_free}
@@ -31,20 +29,16 @@ use Rattle.sender.proofs.Offsets.{told, rank, offset_early}
 -- ---- what a packet shows
 
 -- the symbol that was given, or else another
-abbrev symbol_or : Symbol → Emitted → Symbol
-symbol_or z (One s) = s
-symbol_or z Nothing = z
-
-abbrev given : Emitted → Bool
-given (One s) = true
-given Nothing = false
+abbrev symbol_or : Symbol → Option Symbol → Symbol
+symbol_or z (Some s) = s
+symbol_or z None = z
 
 -- whatever symbol a read gives is shown so
 abbrev Shows : Content → Read → Type 0
-Shows c r = (s : Symbol) → r.answer ≡ One s → Shown c s
+Shows c r = (s : Symbol) → r.answer ≡ Some s → Shown c s
 
-silent : (c : Content) (x : BlockEncoder) → Shows c (record { answer = Nothing; encoder = x })
-silent c x s e = absurd (true≢false (sym (ap given e)))
+silent : (c : Content) (x : BlockEncoder) → Shows c (record { answer = None; encoder = x })
+silent c x s e = absurd (none≢some e)
 
 emptied_shows : (x : BlockEncoder) → Shows x.content (emptied_of x)
 unfolding emptied_of

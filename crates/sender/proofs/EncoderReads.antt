@@ -1,7 +1,7 @@
 -- A read of the encoder is the definition's read.
 use mathlib.Core.Path.{◌≡◌, refl, sym, ◌∙◌, ap, subst}
 use mathlib.Core.Bool.{Bool, true, false, not, ◌&&◌, ◌||◌, and-false}
-use mathlib.Core.Option.{Option, none, some}
+use Rattle.std.specs.Prelude.{Option, None, Some}
 use mathlib.Core.List.{List, [], ◌∷◌}
 use Prim.Native.Nat.{ℕ, zero, suc, ◌+◌, ◌≤◌, ◌<◌}
 use native.Mathlib.Omega.{arith}
@@ -14,16 +14,13 @@ use Rattle.sizes.specs.Partition.{blocks_of, symbols_in}
 use Rattle.sizes.specs.declared.partition.Partition.{Partition}
 use Rattle.sizes.proofs.Tests.{Tested, pass, fail, tested, and_left, and_right, if_on}
 use Rattle.definition.specs.Encoder as Def
-use Rattle.sender.specs.EncoderCalls.{open_said, opened_blocks, encoder_of, is_empty, ValidEncoder, has_room, filled_of, place_to_visit, stuck, without_of, drained_count, settled, ready_of, last_of, next_symbol, closes_of, shown_of, visit_of, goes_on, midway, glance_of, moved_of, emptied_of, stopping_of, emitted_of, read_of, read_said, Reads, Steps}
+use Rattle.sender.specs.EncoderCalls.{Read, open_said, opened_blocks, encoder_of, is_empty, ValidEncoder, has_room, filled_of, place_to_visit, stuck, without_of, drained_count, settled, ready_of, last_of, next_symbol, closes_of, shown_of, visit_of, goes_on, midway, glance_of, moved_of, emptied_of, stopping_of, emitted_of, read_of, read_said, Reads, Steps}
 use Rattle.sender.specs.declared.block.Open.{Open}
 use Rattle.sender.specs.declared.blockencoder.Content.{Content}
 use Rattle.sender.specs.declared.blockencoder.BlockEncoder.{BlockEncoder}
 use Rattle.sender.specs.declared.blockencoder.Visit.{Visit}
-use Rattle.sender.specs.declared.blockencoder.Glance.TheVariants as GlanceV
-use Rattle.sender.specs.declared.blockencoder.Emitted.TheVariants.{One, Nothing}
-use Rattle.sender.specs.declared.blockencoder.Read.{Read}
-use Rattle.sender.proofs.Offsets.{few, left}
-use Rattle.sender.proofs.EncoderLaws.{filled_none, valid_filled, valid_without, place_inside}
+use Rattle.sender.proofs.Offsets.{few, left, esi_small}
+use Rattle.sender.proofs.EncoderLaws.{filled_none, valid_filled, valid_without, place_inside, place_low}
 use Rattle.sender.proofs.EncoderViews.{place_view, open_none, drained_view, fill_view, without_view, visited, visited_view, free_visited, stuck_some, stuck_visited, moved_view, symbol_view, valid_moved, said, emptied_view, valid_flags}
 use Rattle.sender.proofs.EncoderCounts.{count_most, count_filled, count_without, settled_more, settled_end, filled_kept, ready_kept, valid_ready, ready_free}
 
@@ -37,7 +34,7 @@ pub emitted_none : (force : Bool) (x : BlockEncoder) → eqb x.filled 0 ≡ true
 unfolding emitted_of
 emitted_none force x e = rw e
 
-pub emitted_some : (force : Bool) (x : BlockEncoder) → eqb x.filled 0 ≡ false → emitted_of force x ≡ record { answer = One (visit_of force x).symbol; encoder = moved_of x (visit_of force x) }
+pub emitted_some : (force : Bool) (x : BlockEncoder) → eqb x.filled 0 ≡ false → emitted_of force x ≡ record { answer = Some (visit_of force x).symbol; encoder = moved_of x (visit_of force x) }
 unfolding emitted_of
 emitted_some force x e = rw e
 
@@ -54,7 +51,7 @@ module _ (k : ℕ) (force : Bool) where
 
   -- a block is drained and leaves, or gives a symbol
   abbrev chosen : ℕ → Content → Def.Encoder → ℕ → Def.Open → Bool → Option Def.Symbol × Def.Encoder
-  chosen w c y i o b = when b then visits w c (Def.without y i) else (some (Def.symbol_of c.part c.sizes force o (Def.advanced y i o)), Def.advanced y i o)
+  chosen w c y i o b = when b then visits w c (Def.without y i) else (Some (Def.symbol_of c.part c.sizes force o (Def.advanced y i o)), Def.advanced y i o)
 
   -- the block to visit has been looked up
   abbrev looked : ℕ → Content → Def.Encoder → ℕ → Option Def.Open → Option Def.Symbol × Def.Encoder
@@ -88,7 +85,7 @@ module _ (k : ℕ) (force : Bool) where
       turn_free : stuck x ≡ false → Turns x
       turn_free e =
           turn_some false (free_visited x h e)
-          ∙ sym (λ i. (some (symbol_view x v h force i), moved_view x v h force i))
+          ∙ sym (λ i. (Some (symbol_view x v h force i), moved_view x v h force i))
           ∙ ap said (sym (emitted_some force x (ne_eqb x.filled 0 (λ q. absurd (omega arith)))))
           ∙ ap (λ y. said (emitted_of force y)) (sym (settled_end x e (drained_count x)))
 
@@ -144,7 +141,7 @@ emitted_goes force x v s = if_on (λ (r : Read). Goes x r.encoder) (eqb x.filled
 
 module _ (force : Bool) (x : BlockEncoder) where
   -- after a forced read there is nothing
-  read_stopped : x.stopped ≡ true → read_said force x ≡ (none, encoder_of x)
+  read_stopped : x.stopped ≡ true → read_said force x ≡ (None, encoder_of x)
   unfolding Def.read
   read_stopped e = rw e
 
@@ -179,7 +176,7 @@ module _ (force : Bool) (x : BlockEncoder) where
       })
 
   -- the two cases of a read
-  pub read_ended : x.stopped ≡ true → read_of force x ≡ record { answer = Nothing; encoder = x }
+  pub read_ended : x.stopped ≡ true → read_of force x ≡ record { answer = None; encoder = x }
   unfolding read_of
   read_ended e = rw e
 
@@ -264,7 +261,7 @@ module _ (x : BlockEncoder) (v : ValidEncoder x) (m : Midway x) where
   unfolding ready_of
   ready_same = ap (λ y. settled (drained_count y) y) (filled_none x m.full) ∙ settled_end x m.free (drained_count x)
 
-  midway_read : read_of false x ≡ record { answer = One (visit_of false x).symbol; encoder = moved_of x (visit_of false x) }
+  midway_read : read_of false x ≡ record { answer = Some (visit_of false x).symbol; encoder = moved_of x (visit_of false x) }
   midway_read = read_goes false x m.going ∙ ap (λ b. emitted_of false (ready_of (stopping_of b x))) (sym m.going) ∙ ap (emitted_of false) ready_same ∙ emitted_some false x (ne_eqb x.filled 0 (λ q. let h = m.filled in absurd (omega arith)))
 
   pub midway_visit : visit_of false x ≡ shown_of x.content (place_to_visit x) o false
@@ -276,8 +273,13 @@ module _ (x : BlockEncoder) (v : ValidEncoder x) (m : Midway x) where
   midway_steps = let f = visit_fits false x v m.filled m.free in record { read = midway_read; begun = m.begun; place = f.0; block = refl; symbol = f.1; close = stays_open }
 
 -- what a glance tells of the read
-pub glance_steps : (x : BlockEncoder) → ValidEncoder x → (s : Visit) → glance_of x ≡ GlanceV.One s → Steps x s
+pub glance_steps : (x : BlockEncoder) → ValidEncoder x → (s : Visit) → glance_of x ≡ Some s → Steps x s
 unfolding glance_of
-glance_steps x v s = if_on (λ g. g ≡ GlanceV.One s → Steps x s) (midway x)
+glance_steps x v s = if_on (λ g. g ≡ Some s → Steps x s) (midway x)
     (λ e q. subst (Steps x) (cc) (midway_steps x v (midway_told x e)))
     (λ e q. absurd (let z : ◌≡◌ {A = ℕ} 0 1 = cc in omega arith))
+
+-- what a visit, and what a read, is proved by
+pub ruleset visiting = (place_low, place_inside, free_visited, esi_small, midway_told, midway_visit)
+
+pub ruleset reading = (visit_fits, valid_flags, valid_ready, ready_free)

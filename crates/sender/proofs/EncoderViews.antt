@@ -1,7 +1,7 @@
 -- What each step of the encoder is for the definition: filling the window, a drained block leaving, a symbol read, an empty object.
 use mathlib.Core.Path.{◌≡◌, refl, sym, ◌∙◌, ap, ap₂}
 use mathlib.Core.Bool.{Bool, true, false, not, ◌&&◌, ◌||◌}
-use mathlib.Core.Option.{Option, none, some}
+use Rattle.std.specs.Prelude.{Option, None, Some}
 use mathlib.Core.List.{List, [], ◌∷◌, ◌++◌, map, append-nil}
 use Prim.Native.Nat.{ℕ, zero, suc, ◌+◌, ◌-◌, ◌*◌, ◌<◌, min}
 use native.Mathlib.Omega.{arith}
@@ -18,10 +18,9 @@ use Rattle.sizes.proofs.Lists.{map_set, map_append, map_cut, at_map}
 use Rattle.sizes.proofs.Arrays.{take_shut}
 use Rattle.sizes.proofs.Collects.{at_inside}
 use Rattle.definition.specs.Encoder as Def
-use Rattle.sender.specs.EncoderCalls.{open_said, opened_blocks, encoder_of, symbol_said, emitted_said, no_open, open_at, is_empty, ValidEncoder, has_room, one_opened, blocks_opened, filled_of, place_to_visit, stuck, without_of, offset_of, last_of, next_symbol, visit_of, moved_of, emptied_of}
+use Rattle.sender.specs.EncoderCalls.{Read, open_said, opened_blocks, encoder_of, symbol_said, emitted_said, no_open, open_at, is_empty, ValidEncoder, has_room, one_opened, blocks_opened, filled_of, place_to_visit, stuck, without_of, offset_of, last_of, next_symbol, visit_of, moved_of, emptied_of}
 use Rattle.sender.specs.declared.block.Open.{Open}
 use Rattle.sender.specs.declared.blockencoder.BlockEncoder.{BlockEncoder}
-use Rattle.sender.specs.declared.blockencoder.Read.{Read}
 use Rattle.sender.proofs.EncoderLaws.{room_told, missing, missing_less, missing_room, inside_set, valid_one, place_inside}
 
 -- ---- the open blocks
@@ -34,10 +33,10 @@ module _ (x : BlockEncoder) (v : ValidEncoder x) where
   pub open_count : length (opened_blocks x) ≡ x.filled
   open_count = length-map (take x.filled x.window) open_said ∙ taken_count
 
-  pub taken_at : (i : ℕ) → i < x.filled → at (take x.filled x.window) i ≡ some (open_at x i)
-  taken_at i h = at_inside no_open (take x.filled x.window) i (let c = taken_count in omega arith) ∙ ap some (get_or-take x.filled x.window i no_open h)
+  pub taken_at : (i : ℕ) → i < x.filled → at (take x.filled x.window) i ≡ Some (open_at x i)
+  taken_at i h = at_inside no_open (take x.filled x.window) i (let c = taken_count in omega arith) ∙ ap Some (get_or-take x.filled x.window i no_open h)
 
-  pub open_view : (i : ℕ) → i < x.filled → at (opened_blocks x) i ≡ some (open_said (open_at x i))
+  pub open_view : (i : ℕ) → i < x.filled → at (opened_blocks x) i ≡ Some (open_said (open_at x i))
   open_view i h = at_map open_said (take x.filled x.window) i ∙ ap (over open_said) (taken_at i h)
 
   -- the place to visit is the definition's
@@ -46,7 +45,7 @@ module _ (x : BlockEncoder) (v : ValidEncoder x) where
   place_view = ap (λ n. when ltb x.index n then x.index else 0) (sym open_count)
 
 -- with no block open there is none at any place
-pub open_none : (x : BlockEncoder) → x.filled ≡ 0 → (i : ℕ) → at (opened_blocks x) i ≡ none
+pub open_none : (x : BlockEncoder) → x.filled ≡ 0 → (i : ℕ) → at (opened_blocks x) i ≡ None
 open_none x e i = ap (λ n. at (map open_said (take n x.window)) i) e
 
 pub drained_view : (p : Partition) (o : Open) → Def.drained p (open_said o) ≡ is_empty p o
@@ -105,7 +104,7 @@ module _ (x : BlockEncoder) (v : ValidEncoder x) (h : 0 < x.filled) where
 abbrev pub visited : BlockEncoder → Open
 visited x = open_at x (place_to_visit x)
 
-pub visited_view : (x : BlockEncoder) → ValidEncoder x → 0 < x.filled → at (opened_blocks x) (place_to_visit x) ≡ some (open_said (visited x))
+pub visited_view : (x : BlockEncoder) → ValidEncoder x → 0 < x.filled → at (opened_blocks x) (place_to_visit x) ≡ Some (open_said (visited x))
 visited_view x v h = open_view x v (place_to_visit x) (place_inside x h)
 
 -- the encoder after its symbol, for the definition

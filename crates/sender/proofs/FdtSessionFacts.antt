@@ -1,23 +1,22 @@
 -- What a run of the FDT session means in the definition's words.
 use mathlib.Core.Path.{◌≡◌, refl}
 use mathlib.Core.Bool.{true, false, false≢true}
-use mathlib.Core.Option.{Option, none, some}
+use Rattle.std.specs.Prelude.{Option, None, Some}
 use Prim.Native.Nat.{ℕ, ◌≤◌}
 use Rattle.sizes.specs.Limits.{largest_window}
 use Rattle.lifecycle.specs.Setup.{Setup}
-use Rattle.lifecycle.specs.declared.announce.Draft.{Draft}
 use Rattle.lifecycle.specs.declared.fdt.Settings.{Settings}
 use Rattle.lifecycle.specs.declared.fdt.Fdt.{Fdt}
 use Rattle.lifecycle.proofs.AnnounceKeep.{SameObjects, marked_slots}
 use Rattle.definition.specs.FdtSession.{Packet}
 use Rattle.definition.specs.FdtSession as Def
 use Rattle.sender.specs.EncoderCalls.{symbol_said}
-use Rattle.sender.specs.FdtSessionCalls.{FdtHolds, GoodDraft, FdtTries, fdt_idle_of}
+use Rattle.sender.specs.FdtSessionCalls.{FdtHolds, GoodDraft, FdtTries, fdt_idle_of, FdtTurn}
 use Rattle.sender.specs.SessionMeans.{FdtInHand, fdt_carousel_of, fdt_of}
 use Rattle.sender.specs.declared.sendersession.Outcome.{Outcome}
 use Rattle.sender.specs.declared.sendersession.Outcome.TheVariants.{Idle, Sent, Over}
 use Rattle.sender.specs.declared.fdtsession.FdtSession.{FdtSession}
-use Rattle.sender.specs.declared.fdtsession.FdtTurn.{FdtTurn}
+use Rattle.lifecycle.specs.declared.parts.Part.{Part}
 
 -- ---- between two calls
 
@@ -27,7 +26,7 @@ pub record FdtStands (f : Fdt) (w : ℕ) (x : FdtSession) : Type 0 where
   pub idle : x.busy ≡ false → x ≡ fdt_idle_of
 
 -- a session that stands may be run
-pub stands_tries : (f : Fdt) (w : ℕ) (draft : Draft) (x : FdtSession) → FdtHolds f → w ≤ largest_window → GoodDraft f.settings.sizes draft → FdtStands f w x → FdtTries f w draft x
+pub stands_tries : (f : Fdt) (w : ℕ) (draft : Option Part) (x : FdtSession) → FdtHolds f → w ≤ largest_window → GoodDraft f.settings.sizes draft → FdtStands f w x → FdtTries f w draft x
 stands_tries f w draft x h n d s = record { holds = h; narrow = n; looked = d; busy = λ b. (s.busy b).encoder }
 
 -- nothing in hand
@@ -45,9 +44,9 @@ pub record SetFor (u : Setup) (w : ℕ) (z : Settings) : Type 0 where
 
 -- the packet of an answer, for the FDT with this id
 abbrev pub fdt_packet_said : ℕ → Outcome → Option Packet
-fdt_packet_said id Idle = none
-fdt_packet_said id (Sent s) = some record { id = some id; toi = 0; symbol = symbol_said s }
-fdt_packet_said id Over = none
+fdt_packet_said id Idle = None
+fdt_packet_said id (Sent s) = Some record { id = Some id; toi = 0; symbol = symbol_said s }
+fdt_packet_said id Over = None
 
 -- what a run comes to
 abbrev pub fdt_turn_of : FdtTurn → Def.FdtTurn

@@ -5,10 +5,11 @@ use Prim.Native.Nat.{ℕ, ◌+◌, ◌-◌, ◌*◌, ◌≤◌, ◌<◌}
 use native.Mathlib.Nat.{le-mul_of_pos_right, mul-le-mul_right}
 use native.Mathlib.Omega.{arith}
 use borrow.Author.Tests.{leb-false}
-use Rattle.sizes.specs.Limits.{largest_block}
+use Rattle.sizes.specs.Limits.{wide, largest_block}
 use Rattle.sizes.specs.Partition.{symbols_of, symbols_in, first_symbol}
 use Rattle.sizes.specs.PartitionPromises.{Parted}
 use Rattle.sizes.proofs.Arithmetic.{one_more}
+use Rattle.sizes.proofs.Lengths.{before_large, before_small}
 use Rattle.sizes.proofs.PartitionLaws.{parted, parted_bytes, rises}
 use Rattle.lifecycle.proofs.SetupLaws.{SizesTold, blocks_told}
 use Rattle.sender.specs.EncoderCalls.{Sound, Inside, is_empty, offset_of}
@@ -67,3 +68,19 @@ module _ (c : Content) (s : Sound c) where
       pub offset_inside : offset_of c o < l
       unfolding offset_of
       offset_inside = offset_early
+
+      -- f symbols stand before its block: no number on the way to its offset passes 64 bits
+      abbrev pub OnTheWay : ℕ → Type 0
+      OnTheWay f = (f + o.esi.0 ≤ (f + o.esi.0) * e) × ((f + o.esi.0) * e < wide)
+
+      on_the_way : {f : ℕ} → f ≡ first_symbol c.partition o.sbn → OnTheWay f
+      on_the_way q = (rw q rank_low, rw q (omega (arith, offset_early, s.fits)))
+
+      pub fits_large : o.sbn.0 < c.partition.nb_a_large → OnTheWay (o.sbn.0 * c.partition.large)
+      fits_large h = on_the_way (sym (before_large c.partition o.sbn h))
+
+      pub fits_small : c.partition.nb_a_large ≤ o.sbn.0 → OnTheWay (c.partition.nb_a_large * c.partition.large + (o.sbn.0 - c.partition.nb_a_large) * c.partition.small)
+      fits_small h = on_the_way (sym (before_small c.partition o.sbn h))
+
+-- what the offset of a symbol is proved by
+pub ruleset offsets = (before_large, before_small, fits_large, fits_small)

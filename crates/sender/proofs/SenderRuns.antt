@@ -1,7 +1,7 @@
 -- Runs of the code are the definition's, call by call, and so keep its promises; a refused call leaves the sender as it was.
 use mathlib.Core.Path.{◌≡◌, refl, sym, ◌∙◌, ap, subst}
 use mathlib.Core.Bool.{Bool, true, false, not, ◌&&◌, false≢true}
-use mathlib.Core.Option.{Option, none, some}
+use Rattle.std.specs.Prelude.{Option, None, Some}
 use mathlib.Core.List.{List, [], ◌∷◌, map}
 use Prim.Native.Nat.{ℕ}
 use lib.Dec.{ltb}
@@ -10,22 +10,20 @@ use Rattle.sizes.specs.Words.{when◌then◌else◌, given, any}
 use Rattle.sizes.specs.Limits.{most_sessions}
 use Rattle.sizes.specs.Allocator as Alloc
 use Rattle.sizes.specs.declared.refusal.Refusal.{Refusal}
-use Rattle.sizes.specs.declared.toiallocator.Allocated.{Allocated}
-use Rattle.sizes.specs.declared.toiallocator.Changed.{Changed}
+use Rattle.sizes.specs.Allocator.{Allocated}
+use Rattle.sizes.specs.Allocator.{Changed}
 use Rattle.sizes.proofs.Tests.{if_on}
 use Rattle.sizes.proofs.AllocatorViews.{allocated_cases, dropped_cases}
 use Rattle.lifecycle.specs.Setup.{sound}
 use Rattle.lifecycle.specs.Setup.{Setup as DefSetup}
 use Rattle.lifecycle.specs.Slots.{slot_at}
-use Rattle.lifecycle.specs.FdtCalls.{with_tois, added_of, own_of, publication_said, real_draft, draft_test_of}
+use Rattle.lifecycle.specs.FdtCalls.{with_tois, added_of, own_of, real_draft, draft_test_of}
 use Rattle.lifecycle.proofs.FdtMeans.{ListAdds}
 use Rattle.lifecycle.specs.declared.parts.Part.{Part}
-use Rattle.lifecycle.specs.declared.announce.Draft.{Draft}
-use Rattle.lifecycle.specs.declared.fdt.Added.{Added}
-use Rattle.lifecycle.specs.declared.fdt.Named.{Named}
-use Rattle.lifecycle.specs.declared.fdt.Reserved.{Reserved}
-use Rattle.lifecycle.specs.declared.fdt.Released.{Released}
-use Rattle.lifecycle.specs.declared.fdt.Published.{Published}
+use Rattle.lifecycle.specs.FdtCalls.{Added}
+use Rattle.lifecycle.specs.FdtCalls.{Reserved}
+use Rattle.lifecycle.specs.FdtCalls.{Released}
+use Rattle.lifecycle.specs.FdtCalls.{Published}
 use Rattle.lifecycle.proofs.FdtKeeps.{reserved_as, released_as, publish_refusal_of, published_by, publish_as}
 use Rattle.lifecycle.proofs.FdtAdds.{added_view}
 use Rattle.definition.specs.Desk as Def
@@ -43,8 +41,8 @@ use Rattle.sender.specs.declared.sendersession.Outcome.{Outcome}
 use Rattle.sender.specs.declared.sendersession.Outcome.TheVariants as OutcomeV
 use Rattle.sender.specs.declared.sender.Sender.{Sender}
 use Rattle.sender.specs.declared.sender.Object.{Object}
-use Rattle.sender.specs.declared.sender.Adding.{Adding}
-use Rattle.sender.specs.declared.sender.Running.{Running}
+use Rattle.sender.specs.SenderCalls.{Adding}
+use Rattle.sender.specs.SenderCalls.{Running}
 use Rattle.sender.specs.declared.setup.Setup.{Setup}
 use Rattle.sender.proofs.SenderKept as Keeps
 use Rattle.sender.proofs.SetupCallsLaws.{OpeningKept, opening_kept}
@@ -157,29 +155,29 @@ module _ (s : Sender) where
       (dropped_cases (λ (x : Changed). refuses (alloc_answer (Alloc.known_said x.answer)) → with_list s (with_tois s.fdt x.allocator) ≡ s) true t s.fdt.tois
       (λ e. refl) (λ i e. absurd (false≢true e)))
 
-  refused_added : (o : Object) (named : Named) (r : Added) → ListAdds s.fdt (request_of o) (own_of (request_of o).own s.fdt.settings.sizes) named r
+  refused_added : (o : Object) (named : Option ℕ) (r : Added) → ListAdds s.fdt (request_of o) (own_of (request_of o).own s.fdt.settings.sizes) named r
       → refuses (add_answer r.answer) → with_list s r.fdt ≡ s
   refused_added o named r (ListAdds.refused a h) e = ap (λ (x : Added). with_list s x.fdt) h
   refused_added o named r (ListAdds.admits k t h) e = absurd (false≢true (sym (ap (λ x. given (refusal_in (add_answer x))) h.answer) ∙ e))
 
-  refused_add : ValidSender s → (o : Object) (named : Named) → refuses (add_answer (adding_of o named s).answer) → (adding_of o named s).sender ≡ s
+  refused_add : ValidSender s → (o : Object) (named : Option ℕ) → refuses (add_answer (adding_of o named s).answer) → (adding_of o named s).sender ≡ s
   unfolding adding_of
   refused_add v o named = if_on (λ (x : Adding). refuses (add_answer x.answer) → x.sender ≡ s) (any (has_priority o.priority) (working s))
       (λ h. refused_added o named (added_of s.fdt (request_of o) named) (added_view s.fdt v.holds.valid (request_of o) named)) (λ h e. refl)
 
-  refused_publish : (now : ℕ) (c : Part) → refuses (alloc_answer (publication_said (publishing_of now c s).answer)) → (publishing_of now c s).sender ≡ s
+  refused_publish : (now : ℕ) (c : Part) → refuses (alloc_answer (Alloc.known_said (publishing_of now c s).answer)) → (publishing_of now c s).sender ≡ s
   unfolding publishing_of
-  refused_publish now c = subst (λ (r : Published). refuses (alloc_answer (publication_said r.answer)) → with_list s r.fdt ≡ s) (sym (publish_as c s.fdt now)) (by (publish_refusal_of c s.fdt))
+  refused_publish now c = subst (λ (r : Published). refuses (alloc_answer (Alloc.known_said r.answer)) → with_list s r.fdt ≡ s) (sym (publish_as c s.fdt now)) (by (publish_refusal_of c s.fdt))
     where
-      by : (o : Option Refusal) → refuses (alloc_answer (publication_said (published_by c s.fdt now o).answer)) → with_list s (published_by c s.fdt now o).fdt ≡ s
-      by none e = absurd (false≢true e)
-      by (some why) e = refl
+      by : (o : Option Refusal) → refuses (alloc_answer (Alloc.known_said (published_by c s.fdt now o).answer)) → with_list s (published_by c s.fdt now o).fdt ≡ s
+      by None e = absurd (false≢true e)
+      by (Some why) e = refl
 
-  refused_fdt_run : (now : ℕ) (draft : Draft) (x : Option Refusal) → refuses (fdt_answer (fdt_running_by now draft s x).taken (fdt_running_by now draft s x).answer) → (fdt_running_by now draft s x).sender ≡ s
-  refused_fdt_run now draft none e = let r = fdt_ran_of s.window now draft s.fdt s.fdt_session in absurd (false≢true (sym (served_fdt r.taken r.session.id r.answer) ∙ e))
-  refused_fdt_run now draft (some n) e = refl
+  refused_fdt_run : (now : ℕ) (draft : Option Part) (x : Option Refusal) → refuses (fdt_answer (fdt_running_by now draft s x).taken (fdt_running_by now draft s x).answer) → (fdt_running_by now draft s x).sender ≡ s
+  refused_fdt_run now draft None e = let r = fdt_ran_of s.window now draft s.fdt s.fdt_session in absurd (false≢true (sym (served_fdt r.taken r.session.id r.answer) ∙ e))
+  refused_fdt_run now draft (Some n) e = refl
 
-  refused_run_fdt : (now : ℕ) (draft : Draft) → refuses (fdt_answer (fdt_running_of now draft s).taken (fdt_running_of now draft s).answer) → (fdt_running_of now draft s).sender ≡ s
+  refused_run_fdt : (now : ℕ) (draft : Option Part) → refuses (fdt_answer (fdt_running_of now draft s).taken (fdt_running_of now draft s).answer) → (fdt_running_of now draft s).sender ≡ s
   unfolding fdt_running_of
   refused_run_fdt now draft = refused_fdt_run now (real_draft draft) (draft_test_of (real_draft draft) s.fdt)
 

@@ -1,7 +1,7 @@
 -- What a run of a file session means in the definition's words, and what stays in it.
 use mathlib.Core.Path.{◌≡◌, refl, ◌∙◌}
 use mathlib.Core.Bool.{Bool, true, false, not, ◌&&◌, ◌||◌, false≢true}
-use mathlib.Core.Option.{Option, none, some}
+use Rattle.std.specs.Prelude.{Option, None, Some}
 use Prim.Native.Nat.{ℕ, ◌≤◌}
 use lib.Dec.{eqb}
 use Rattle.sizes.specs.Limits.{largest_window}
@@ -15,12 +15,11 @@ use Rattle.lifecycle.proofs.TakesKeep.{taken_numbers, done_numbers}
 use Rattle.definition.specs.FdtSession.{Packet}
 use Rattle.definition.specs.Session as Def
 use Rattle.sender.specs.EncoderCalls.{symbol_said}
-use Rattle.sender.specs.SessionCalls.{session_of, Holds, Runs, idle_of}
+use Rattle.sender.specs.SessionCalls.{session_of, Holds, Runs, idle_of, Turn}
 use Rattle.sender.specs.SessionMeans.{Stands, queue_of}
 use Rattle.sender.specs.declared.sendersession.SenderSession.{SenderSession}
 use Rattle.sender.specs.declared.sendersession.Outcome.{Outcome}
 use Rattle.sender.specs.declared.sendersession.Outcome.TheVariants.{Idle, Sent, Over}
-use Rattle.sender.specs.declared.sendersession.Turn.{Turn}
 
 -- ---- between two calls
 
@@ -40,9 +39,9 @@ has_slot x j = x.busy && eqb x.slot j
 
 -- the packet of an answer, for the object with number t
 abbrev pub packet_said : ℕ → Outcome → Option Packet
-packet_said t Idle = none
-packet_said t (Sent s) = some record { id = none; toi = t; symbol = symbol_said s }
-packet_said t Over = none
+packet_said t Idle = None
+packet_said t (Sent s) = Some record { id = None; toi = t; symbol = symbol_said s }
+packet_said t Over = None
 
 -- what a run comes to
 abbrev pub turn_of : Turn → Def.Turn

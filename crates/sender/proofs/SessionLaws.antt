@@ -1,5 +1,5 @@
 -- Laws of the file sessions: every call of the list keeps its objects good, an object that is taken in hand is ready, and a run goes by cases.
-use mathlib.Core.Path.{◌≡◌, refl, sym, ◌∙◌, ap}
+use mathlib.Core.Path.{◌≡◌, refl, sym, ◌∙◌, ap, subst}
 use mathlib.Core.Bool.{true, false, ◌||◌}
 use Prim.Native.Nat.{ℕ, ◌≤◌, ◌<◌}
 use native.Mathlib.Omega.{arith}
@@ -10,30 +10,26 @@ use Rattle.sizes.proofs.Tables.{inside}
 use Rattle.lifecycle.specs.FileDesc.{with_life}
 use Rattle.lifecycle.specs.Slots.{no_slot, slot_at}
 use Rattle.lifecycle.specs.Announce.{waits_of}
-use Rattle.lifecycle.specs.FdtCalls.{sends, completed_of, reserved_of, released_of, added_of, removed_of, triggered_of, taken_of, done_of, publish_of, next_fdt_of, fdt_done_of}
-use Rattle.lifecycle.specs.FdtCalls.{ValidFdt}
+use Rattle.lifecycle.specs.FdtCalls.{sends, completed_of, reserved_of, released_of, added_of, removed_of, triggered_of, taken_of, done_of, publish_of, next_fdt_of, fdt_done_of, Taken}
 use Rattle.lifecycle.proofs.FdtMeans.{is_taken}
 use Rattle.lifecycle.specs.declared.parts.Part.{Part}
 use Rattle.lifecycle.specs.declared.filedesc.Time.{Time}
 use Rattle.lifecycle.specs.declared.filedesc.Life.{Life}
 use Rattle.lifecycle.specs.declared.filedesc.FileDesc.{FileDesc}
-use Rattle.sizes.specs.declared.place.Place.TheVariants as PlaceV
-use Rattle.lifecycle.specs.declared.announce.Draft.{Draft}
 use Rattle.lifecycle.specs.declared.fdt.Fdt.{Fdt}
 use Rattle.lifecycle.specs.declared.fdt.Request.{Request}
-use Rattle.lifecycle.specs.declared.fdt.Named.{Named}
 use Rattle.lifecycle.proofs.FdtFacts.{used_sends}
 use Rattle.lifecycle.proofs.FdtValid.{valid_reserved, valid_released, valid_completed, valid_triggered, valid_taken, valid_done, valid_removed, valid_added}
 use Rattle.lifecycle.proofs.FdtSent.{taken_sent}
 use Rattle.lifecycle.proofs.PublishLaws.{valid_publish, valid_next_fdt, valid_fdt_done}
 use Rattle.lifecycle.proofs.HeldKeep.{part_lies_in, reserved_held, released_held, taken_held, done_held, removed_held, triggered_held, published_held, next_fdt_held, fdt_done_held, added_held}
-use Rattle.sender.specs.SessionCalls.{Good, Holds, Ready, begun_of, forced_slot, served_of, ran_by, attended_of, taken_on_of, again_by, ran_of}
+use Rattle.sender.specs.SessionCalls.{Good, Holds, Ready, begun_of, forced_slot, served_of, ran_by, attended_of, taken_on_of, again_by, ran_of, Turn}
 use Rattle.sender.specs.declared.blockencoder.Symbol.{Symbol}
 use Rattle.sender.specs.declared.sendersession.SenderSession.{SenderSession}
 use Rattle.sender.specs.declared.sendersession.Outcome.{Outcome}
 use Rattle.sender.specs.declared.sendersession.Outcome.TheVariants.{Idle, Sent, Over}
-use Rattle.sender.specs.declared.sendersession.Turn.{Turn}
 use Rattle.sender.proofs.SessionTakes.{begun_valid}
+use Rattle.std.specs.Prelude.{Option, Some}
 
 -- ---- what a session comes to
 
@@ -74,14 +70,14 @@ module _ (f : Fdt) (h : Holds f) where
   pub holds_published : (now : ℕ) (c : Part) → Holds (publish_of now c f).fdt
   holds_published now c = record { valid = valid_publish now c f h.valid; good = published_held Good good_kept f h.good now c }
 
-  pub holds_next_fdt : (now : ℕ) (draft : Draft) → Holds (next_fdt_of now draft f).fdt
+  pub holds_next_fdt : (now : ℕ) (draft : Option Part) → Holds (next_fdt_of now draft f).fdt
   holds_next_fdt now draft = record { valid = valid_next_fdt now draft f h.valid; good = next_fdt_held Good good_kept f h.good now draft }
 
   pub holds_fdt_done : (now : ℕ) → Holds (fdt_done_of now f)
   holds_fdt_done now = record { valid = valid_fdt_done now f h.valid; good = fdt_done_held Good good_kept f h.good now }
 
   -- an object that is admitted was refused neither for its sizes nor for its part
-  pub holds_added : f.settings.object_store ≤ longest_store → (q : Request) (named : Named) → Holds (added_of f q named).fdt
+  pub holds_added : f.settings.object_store ≤ longest_store → (q : Request) (named : Option ℕ) → Holds (added_of f q named).fdt
   holds_added m q named = record {
     valid = valid_added f h.valid q named;
     good = added_held Good good_kept f h.good q named h.valid (λ t s p. (let o = part_lies_in f q.part p in record { sizes = s; fits = omega arith }));
@@ -89,31 +85,30 @@ module _ (f : Fdt) (h : Holds f) where
 
 -- ---- an object is taken in hand
 
-module _ (f : Fdt) (v : ValidFdt f) (p now k : ℕ) (e : (taken_of p now f).answer ≡ PlaceV.At k) where
+module _ (f r : Fdt) (h : Holds f) (p now k : ℕ) (e : taken_of p now f ≡ record { answer = Some k; fdt = r }) where
   -- it is in transfer
-  pub taken_sends : sends (slot_at (taken_of p now f).fdt.slots k) ≡ true
+  taken_sends : sends (slot_at r.slots k) ≡ true
   taken_sends =
       let b = sends (slot_at f.slots k) in
-      taken_sent f v p now k ∙ ap (λ a. is_taken a k || b) e ∙ ap (λ a. a || b) (eq-eqb k k refl)
+      ap (λ (t : Taken). sends (slot_at t.fdt.slots k)) (sym e) ∙ taken_sent f h.valid p now k
+      ∙ ap (λ (t : Taken). is_taken t.answer k || b) e ∙ ap (λ a. a || b) (eq-eqb k k refl)
+
+  holds_then : Holds r
+  holds_then = subst (λ (t : Taken). Holds t.fdt) e (holds_taken f h p now)
 
   pub taken_inside : k < object_slots
-  taken_inside =
-      let r = (taken_of p now f).fdt in
-      let l = (valid_taken f v p now).slots_long in
-      let i = inside no_slot sends r.slots k refl taken_sends in omega arith
+  taken_inside = let l = holds_then.valid.slots_long in let i = inside no_slot sends r.slots k refl taken_sends in omega arith
 
--- what a session begins with is of its object
-pub ready_begun : (f : Fdt) → Holds f → (w p now k : ℕ) → w ≤ largest_window → (taken_of p now f).answer ≡ PlaceV.At k
-    → Ready (taken_of p now f).fdt (begun_of w now p k (slot_at (taken_of p now f).fdt.slots k).file)
-unfolding begun_of
-ready_begun f h w p now k n e =
-    let y = slot_at (taken_of p now f).fdt.slots k in
-    let t = holds_taken f h p now in
-    record {
-      valid = t.valid;
-      slot = taken_inside f h.valid p now k e;
-      encoder = begun_valid w now p k y.file (t.good k (used_sends y (taken_sends f h.valid p now k e))) n;
-    }
+  -- what a session begins with is of its object
+  pub ready_begun : (w : ℕ) → w ≤ largest_window → Ready r (begun_of w now p k (slot_at r.slots k).file)
+  unfolding begun_of
+  ready_begun w n =
+      let y = slot_at r.slots k in
+      record {
+        valid = holds_then.valid;
+        slot = taken_inside;
+        encoder = begun_valid w now p k y.file (holds_then.good k (used_sends y taken_sends)) n;
+      }
 
 -- ---- a round of a session
 
@@ -130,11 +125,11 @@ holds_attended now f x h = let r = served_of (forced_slot (slot_at f.slots x.slo
 -- ---- a run, by cases
 
 module _ (w now : ℕ) (f : Fdt) (x : SenderSession) where
-  pub ran_busy : x.busy ≡ true → (a : Turn) → a ≡ attended_of now f x → ran_of w now f x ≡ again_by w now a a.answer
+  pub ran_busy : x.busy ≡ true → (a : Turn) → attended_of now f x ≡ a → ran_of w now f x ≡ again_by w now a a.answer
   unfolding ran_of
   ran_busy e a h =
       ap (λ b. when b then again_by w now (attended_of now f x) (attended_of now f x).answer else taken_on_of w now f x) e
-      ∙ ap (λ (r : Turn). again_by w now r r.answer) (sym h)
+      ∙ ap (λ (r : Turn). again_by w now r r.answer) h
 
   pub ran_idle : x.busy ≡ false → ran_of w now f x ≡ taken_on_of w now f x
   unfolding ran_of

@@ -1,7 +1,7 @@
 -- A round of a file session with an object in hand is the definition's; what it leaves in hand, and what is in transfer after it.
 use mathlib.Core.Path.{◌≡◌, refl, sym, ◌∙◌, ap, subst}
 use mathlib.Core.Bool.{Bool, true, false, not, ◌&&◌, ◌||◌, true≢false}
-use mathlib.Core.Option.{Option, none, some}
+use Rattle.std.specs.Prelude.{Option, None, Some}
 use mathlib.Core.List.{List, [], ◌∷◌, ◌++◌, map}
 use Prim.Native.Nat.{ℕ}
 use lib.Dec.{eqb}
@@ -24,19 +24,14 @@ use Rattle.lifecycle.proofs.FdtSent.{done_sent}
 use Rattle.lifecycle.proofs.TakesKeep.{goes_back_as, done_other}
 use Rattle.definition.specs.Encoder as DefEncoder
 use Rattle.definition.specs.Session as Def
-use Rattle.sender.specs.EncoderCalls.{encoder_of, symbol_said, emitted_said, read_of, Reads}
-use Rattle.sender.specs.SessionCalls.{object_of, hand_of, Holds, idle_of, forced_slot, service_by, served_of, ran_by, attended_of}
+use Rattle.sender.specs.EncoderCalls.{encoder_of, symbol_said, emitted_said, read_of, Reads, Read}
+use Rattle.sender.specs.SessionCalls.{object_of, hand_of, Holds, idle_of, forced_slot, service_by, served_of, ran_by, attended_of, Turn, Serving}
 use Rattle.sender.specs.SessionMeans.{InHand, queue_of}
 use Rattle.sender.specs.declared.blockencoder.BlockEncoder.{BlockEncoder}
 use Rattle.sender.specs.declared.blockencoder.Symbol.{Symbol}
-use Rattle.sender.specs.declared.blockencoder.Emitted.{Emitted}
-use Rattle.sender.specs.declared.blockencoder.Emitted.TheVariants as EmittedV
-use Rattle.sender.specs.declared.blockencoder.Read.{Read}
 use Rattle.sender.specs.declared.sendersession.SenderSession.{SenderSession}
 use Rattle.sender.specs.declared.sendersession.Outcome.{Outcome}
 use Rattle.sender.specs.declared.sendersession.Outcome.TheVariants.{Idle, Sent, Over}
-use Rattle.sender.specs.declared.sendersession.Serving.{Serving}
-use Rattle.sender.specs.declared.sendersession.Turn.{Turn}
 use Rattle.sender.proofs.EncoderReads.{read_means}
 use Rattle.sender.proofs.SessionFacts.{has_slot, turn_of, FileRuns, same_side, same_on, done_side}
 use Rattle.sender.proofs.SessionLaws.{holds_done}
@@ -69,21 +64,21 @@ module _ (now w : ℕ) (f : Fdt) (g : Holds f) (x : SenderSession) (h : InHand f
 
   module _ (b : x.busy ≡ true) where
     -- it stays in hand
-    still_view : Def.idle (queue_of f) (some (in_hand f x)) ≡ turn_of (record { answer = Idle; fdt = f; session = x })
-    still_view = ap (λ c. Def.idle (queue_of f) (when c then some (in_hand f x) else none)) (sym b)
+    still_view : Def.idle (queue_of f) (Some (in_hand f x)) ≡ turn_of (record { answer = Idle; fdt = f; session = x })
+    still_view = ap (λ c. Def.idle (queue_of f) (when c then Some (in_hand f x) else None)) (sym b)
 
     -- a symbol of it was sent
     sent_view : (s : Symbol) (y : BlockEncoder) → Def.sent (queue_of f) (in_hand f x) (encoder_of y) (symbol_said s) ≡ turn_of (record { answer = Sent s; fdt = f; session = after x y })
     unfolding Def.sent
     sent_view s y = λ i. record {
-      packet = some record { id = none; toi = (file_at f.slots x.slot).toi; symbol = symbol_said s };
+      packet = Some record { id = None; toi = (file_at f.slots x.slot).toi; symbol = symbol_said s };
       queue = queue_of f;
-      hand = when sym b i then some record {
+      hand = when sym b i then Some record {
         object = object_of (file_at f.slots x.slot);
         listed = (slot_at f.slots x.slot).listed;
         encoder = encoder_of y;
         pace = sym (ticked_view x.pace) i;
-      } else none;
+      } else None;
     }
 
 -- ---- what a round keeps
@@ -177,15 +172,15 @@ module _ (u : Setup) (now w : ℕ) (window : u.window ≡ w) (f : Fdt) (g : Hold
       (go (waits_of f.announcer) (too_early now (pace_said x.pace)) r.answer)
     where
       still : Def.Turn
-      still = Def.idle (queue_of f) (some (in_hand f x))
+      still = Def.idle (queue_of f) (Some (in_hand f x))
 
       -- the definition's round, by whether an FDT is queued, whether it is too early, and what is read
       round_by : Bool → Bool → Option DefEncoder.Symbol × DefEncoder.Encoder → Def.Round
       round_by queued early z = when queued then Def.Round.over still else when early then Def.Round.over still
-          else elim z.0 [ none ↦ Def.Round.again (Def.put_back now (in_hand f x) (queue_of f)) | some y ↦ Def.Round.over (Def.sent (queue_of f) (in_hand f x) z.1 y) ]
+          else elim z.0 [ None ↦ Def.Round.again (Def.put_back now (in_hand f x) (queue_of f)) | Some y ↦ Def.Round.over (Def.sent (queue_of f) (in_hand f x) z.1 y) ]
 
       -- the code's
-      ran_after : Bool → Bool → Emitted → Turn
+      ran_after : Bool → Bool → Option Symbol → Turn
       ran_after queued early a =
           let s : Serving = when queued || early then record { answer = Idle; session = x } else service_by x r.encoder a in
           ran_by now f x s.session s.answer
@@ -193,11 +188,11 @@ module _ (u : Setup) (now w : ℕ) (window : u.window ≡ w) (f : Fdt) (g : Hold
       resting : Rounds w f x (Def.Round.over still) (record { answer = Idle; fdt = f; session = x })
       resting = waits (keeps now w f g x h b still Idle x b refl (λ j. refl) h (still_view now w f g x h b))
 
-      go : (queued early : Bool) (a : Emitted) → Rounds w f x (round_by queued early (emitted_said a, encoder_of r.encoder)) (ran_after queued early a)
+      go : (queued early : Bool) (a : Option Symbol) → Rounds w f x (round_by queued early (emitted_said a, encoder_of r.encoder)) (ran_after queued early a)
       go true early a = resting
       go false true a = resting
-      go false false (EmittedV.One s) = sent (keeps now w f g x h b _ (Sent s) (after x r.encoder) b refl (λ j. refl) read_in_hand (sent_view now w f g x h b s r.encoder))
-      go false false EmittedV.Nothing =
+      go false false (Some s) = sent (keeps now w f g x h b _ (Sent s) (after x r.encoder) b refl (λ j. refl) read_in_hand (sent_view now w f g x h b s r.encoder))
+      go false false None =
           let d = done_of now x.slot f in
           subst (λ q. Rounds w f x (Def.Round.again q) (record { answer = Over; fdt = d; session = idle_of x.priority })) (sym (done_queue now w f g x h))
           (ended d (holds_done f g now x.slot) (done_side f g.valid now x.slot).announcer (after_end now w f g x h b))

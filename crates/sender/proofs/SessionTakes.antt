@@ -1,7 +1,7 @@
 -- A file session takes an object: the definition finds the same one, and has the same in hand.
 use mathlib.Core.Path.{◌≡◌, refl, sym, ◌∙◌, ap, subst}
 use mathlib.Core.Bool.{Bool, true, false}
-use mathlib.Core.Option.{Option, none, some}
+use Rattle.std.specs.Prelude.{Option, None, Some}
 use mathlib.Core.List.{List, [], ◌∷◌, map}
 use Prim.Native.Nat.{ℕ, suc, ◌≤◌}
 use Rattle.sizes.specs.Words.{when◌then◌else◌, over, at, find, drop_first}
@@ -32,20 +32,20 @@ use Rattle.sender.proofs.EncoderPromises.{new_sound}
 
 -- a search by another test that says the same of each element
 module _ {A : Type 0} (ok other : A → Bool) where
-  find_in : (l : List A) → ((i : ℕ) (a : A) → at l i ≡ some a → ok a ≡ other a) → find ok l ≡ find other l
+  find_in : (l : List A) → ((i : ℕ) (a : A) → at l i ≡ Some a → ok a ≡ other a) → find ok l ≡ find other l
   find_in [] h = refl
-  find_in (a ∷ l) h = λ i. when h 0 a refl i then some a else find_in l (λ n. h (suc n)) i
+  find_in (a ∷ l) h = λ i. when h 0 a refl i then Some a else find_in l (λ n. h (suc n)) i
 
-  drop_in : (l : List A) → ((i : ℕ) (a : A) → at l i ≡ some a → ok a ≡ other a) → drop_first ok l ≡ drop_first other l
+  drop_in : (l : List A) → ((i : ℕ) (a : A) → at l i ≡ Some a → ok a ≡ other a) → drop_first ok l ≡ drop_first other l
   drop_in [] h = refl
   drop_in (a ∷ l) h = λ i. when h 0 a refl i then l else a ∷ drop_in l (λ n. h (suc n)) i
 
-over_some : {A B : Type 0} (f : A → B) (o : Option A) (b : B) → over f o ≡ some b → (a : A) × (o ≡ some a) × (f a ≡ b)
-over_some f none b e = absurd (none≢some e)
-over_some f (some a) b e = (a, refl, cc)
+over_some : {A B : Type 0} (f : A → B) (o : Option A) (b : B) → over f o ≡ Some b → (a : A) × (o ≡ Some a) × (f a ≡ b)
+over_some f None b e = absurd (none≢some e)
+over_some f (Some a) b e = (a, refl, cc)
 
 -- what waits is not in transfer
-files_unsent : (f : Fdt) → ValidFdt f → (n : ℕ) (o : FileDesc) → at (files f) n ≡ some o → o.life.transferring ≡ false
+files_unsent : (f : Fdt) → ValidFdt f → (n : ℕ) (o : FileDesc) → at (files f) n ≡ Some o → o.life.transferring ≡ false
 files_unsent f v n o e =
     let h = over_some (file_at f.slots) (at (waiting f) n) o (sym (at_map (file_at f.slots) (waiting f) n) ∙ e) in
     subst (λ (a : FileDesc). a.life.transferring ≡ false) h.2 (waits_at f v n h.0 h.1).unsent

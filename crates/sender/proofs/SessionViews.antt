@@ -1,7 +1,7 @@
 -- A run of a file session is the definition's; what it leaves in hand, and what is in transfer after it.
 use mathlib.Core.Path.{◌≡◌, refl, sym, ◌∙◌, ap, subst}
 use mathlib.Core.Bool.{Bool, true, false, not, ◌&&◌, ◌||◌, true≢false, false≢true}
-use mathlib.Core.Option.{Option, none, some}
+use Rattle.std.specs.Prelude.{Option, None, Some}
 use mathlib.Core.List.{List, map}
 use Prim.Native.Nat.{ℕ, ◌+◌, ◌≤◌}
 use native.Mathlib.Omega.{arith}
@@ -16,24 +16,21 @@ use Rattle.lifecycle.specs.Setup.{Setup}
 use Rattle.lifecycle.specs.FileDesc.{startable_file}
 use Rattle.lifecycle.specs.Slots.{no_slot, slot_at}
 use Rattle.lifecycle.specs.Announce.{waits_of}
-use Rattle.lifecycle.specs.FdtCalls.{file_at, files, sends, taken_of}
+use Rattle.lifecycle.specs.FdtCalls.{file_at, files, sends, taken_of, Taken}
 use Rattle.lifecycle.specs.FdtCalls.{started_slot}
 use Rattle.lifecycle.proofs.FdtMeans.{Waits, Seen, Takes, nothing, takes}
 use Rattle.lifecycle.specs.declared.slots.Slot.{Slot}
-use Rattle.sizes.specs.declared.place.Place.{Place}
 use Rattle.lifecycle.specs.declared.fdt.Fdt.{Fdt}
-use Rattle.lifecycle.specs.declared.fdt.Taken.{Taken}
 use Rattle.lifecycle.proofs.FdtFacts.{used_sends}
 use Rattle.lifecycle.proofs.FdtViews.{at_each, taken_view}
 use Rattle.lifecycle.proofs.TakesKeep.{started_sends}
 use Rattle.definition.specs.Session as Def
 use Rattle.sender.specs.EncoderCalls.{new_of}
-use Rattle.sender.specs.SessionCalls.{object_of, hand_of, session_of, Holds, Runs, idle_of, begun_of, attended_of, taken_by, taken_on_of, again_by, ran_of}
+use Rattle.sender.specs.SessionCalls.{object_of, hand_of, session_of, Holds, Runs, idle_of, begun_of, attended_of, taken_by, taken_on_of, again_by, ran_of, Turn}
 use Rattle.sender.specs.SessionMeans.{InHand, Stands, queue_of}
 use Rattle.sender.specs.declared.sendersession.SenderSession.{SenderSession}
 use Rattle.sender.specs.declared.sendersession.Outcome.{Outcome}
 use Rattle.sender.specs.declared.sendersession.Outcome.TheVariants.{Idle, Over}
-use Rattle.sender.specs.declared.sendersession.Turn.{Turn}
 use Rattle.sender.proofs.SessionFacts.{has_slot, packet_said, SameSide, FileRuns, same_side, same_on, taken_side}
 use Rattle.sender.proofs.SessionLaws.{holds_taken}
 use Rattle.sender.proofs.SessionRounds.{in_hand, has_sent, Rounds, waits, sent, ended, attended_round}
@@ -42,10 +39,10 @@ use Rattle.sender.proofs.SessionTakes.{find_startable, drop_startable, begun_han
 -- ---- nothing in hand
 
 -- nothing happens
-nothing_means : (w : ℕ) (f : Fdt) → Holds f → (x : SenderSession) → x ≡ idle_of x.priority → (a : Outcome) → ((t : ℕ) → packet_said t a ≡ none)
-    → FileRuns w f x (Def.idle (queue_of f) none) (record { answer = a; fdt = f; session = x })
+nothing_means : (w : ℕ) (f : Fdt) → Holds f → (x : SenderSession) → x ≡ idle_of x.priority → (a : Outcome) → ((t : ℕ) → packet_said t a ≡ None)
+    → FileRuns w f x (Def.idle (queue_of f) None) (record { answer = a; fdt = f; session = x })
 nothing_means w f g x e a p = record {
-  view = λ i. record { packet = sym (p (file_at f.slots x.slot).toi) i; queue = queue_of f; hand = when sym c i then some (in_hand f x) else none };
+  view = λ i. record { packet = sym (p (file_at f.slots x.slot).toi) i; queue = queue_of f; hand = when sym c i then Some (in_hand f x) else None };
   holds = g;
   stands = record { busy = λ t. absurd (false≢true (sym c ∙ t)); idle = λ t. e };
   priority = refl;
@@ -76,8 +73,8 @@ module _ (u : Setup) (w now : ℕ) (window : u.window ≡ w) (narrow : w ≤ lar
   -- the definition's round, by what is found
   abbrev round_on : Option Def.Object → Def.Round
   round_on o =
-      let h : Option Def.Hand × List Def.Object = elim o [ none ↦ (none, queue_of f) | some o ↦ (some (Def.begin now o), drop_first (Def.startable x.priority now) (queue_of f)) ] in
-      elim h.0 [ none ↦ Def.Round.over (Def.idle h.1 none) | some y ↦ Def.round_with u now (waits_of f.announcer) h.1 y ]
+      let h : Option Def.Hand × List Def.Object = elim o [ None ↦ (None, queue_of f) | Some o ↦ (Some (Def.begin now o), drop_first (Def.startable x.priority now) (queue_of f)) ] in
+      elim h.0 [ None ↦ Def.Round.over (Def.idle h.1 None) | Some y ↦ Def.round_with u now (waits_of f.announcer) h.1 y ]
 
   -- the code's t, in which slot k has been taken from place n
   module _ (t : Fdt) (gt : Holds t) (st : SameSide f t) (n k : ℕ) (hi : Hit (startable_file x.priority now) (files f) n (file_at f.slots k)) (wt : Waits f n k)
@@ -105,7 +102,7 @@ module _ (u : Setup) (w now : ℕ) (window : u.window ≡ w) (narrow : w ≤ lar
     begun_same = ap (λ (v : Slot). hand_of v (begun_of w now x.priority k v.file)) s.new ∙ begun_hand w now x.priority k (slot_at f.slots k) wt.is_listed
 
     -- the definition takes the same object
-    take_same : Def.round u x.priority now (waits_of f.announcer) (queue_of f) none ≡ Def.round_with u now (waits_of t.announcer) (queue_of t) (in_hand t y)
+    take_same : Def.round u x.priority now (waits_of f.announcer) (queue_of f) None ≡ Def.round_with u now (waits_of t.announcer) (queue_of t) (in_hand t y)
     unfolding Def.round Def.in_hand_or_next
     take_same = ap round_on (find_startable f g.valid x.priority now ∙ ap (over object_of) hi.first)
         ∙ (λ i. Def.round_with u now (waits_of (sym st.announcer i)) ((drop_startable f g.valid x.priority now ∙ ap (map object_of) (hi.rest ∙ sym s.queue)) i) (sym begun_same i))
@@ -142,34 +139,34 @@ module _ (u : Setup) (w now : ℕ) (window : u.window ≡ w) (narrow : w ≤ lar
       same = same_on st h.same;
     }
 
-    taken_means : FileRuns w f x (Def.last_round (Def.round u x.priority now (waits_of f.announcer) (queue_of f) none)) (attended_of now t y)
+    taken_means : FileRuns w f x (Def.last_round (Def.round u x.priority now (waits_of f.announcer) (queue_of f) None)) (attended_of now t y)
     unfolding begun_of
     taken_means = subst (λ m. FileRuns w f x (Def.last_round m) (attended_of now t y)) (sym take_same) (starts _ _ (last (attended_round u now w window t gt y begun_in refl)))
 
   -- nothing may start
-  take_none : place (startable_file x.priority now) (files f) ≡ none → Def.round u x.priority now (waits_of f.announcer) (queue_of f) none ≡ Def.Round.over (Def.idle (queue_of f) none)
+  take_none : place (startable_file x.priority now) (files f) ≡ None → Def.round u x.priority now (waits_of f.announcer) (queue_of f) None ≡ Def.Round.over (Def.idle (queue_of f) None)
   unfolding Def.round Def.in_hand_or_next
   take_none e = ap round_on (find_startable f g.valid x.priority now ∙ ap (over object_of) (found_none (startable_file x.priority now) (files f) e).0)
 
   -- the whole round with nothing in hand
-  taken_on_means : FileRuns w f x (Def.last_round (Def.round u x.priority now (waits_of f.announcer) (queue_of f) none)) (taken_on_of w now f x)
+  taken_on_means : FileRuns w f x (Def.last_round (Def.round u x.priority now (waits_of f.announcer) (queue_of f) None)) (taken_on_of w now f x)
   unfolding taken_on_of
   taken_on_means = go (taken_of x.priority now f) (holds_taken f g x.priority now) (taken_side f x.priority now) (taken_view f g.valid x.priority now)
     where
       -- the definition's round, and the code's after what was taken
       P : Taken → Type 0
-      P t = FileRuns w f x (Def.last_round (Def.round u x.priority now (waits_of f.announcer) (queue_of f) none)) (taken_by w now t.fdt x t.answer)
+      P t = FileRuns w f x (Def.last_round (Def.round u x.priority now (waits_of f.announcer) (queue_of f) None)) (taken_by w now t.fdt x t.answer)
 
       go : (t : Taken) → Holds t.fdt → SameSide f t.fdt → Takes x.priority now f t → P t
       go t gt st (nothing e q) = subst P (sym q) (subst (λ m. FileRuns w f x (Def.last_round m) (record { answer = Idle; fdt = f; session = x })) (sym (take_none e)) (nothing_means w f g x empty Idle (λ t. refl)))
-      go t gt st (takes n k hi wt a s) = subst (λ (b : Place). P (record { answer = b; fdt = t.fdt })) (sym a) (taken_means t.fdt gt st n k hi wt s)
+      go t gt st (takes n k hi wt a s) = subst (λ (b : Option ℕ). P (record { answer = b; fdt = t.fdt })) (sym a) (taken_means t.fdt gt st n k hi wt s)
 
 -- ---- the whole run
 
 module _ (u : Setup) (w now : ℕ) (window : u.window ≡ w) (f : Fdt) (x : SenderSession) (runs : Runs f w x) (st : Stands f w x) where
   -- the definition's run, by its first round
   abbrev run_on : Def.Round → Def.Turn
-  run_on m = elim m [ Def.Round.over t ↦ t | Def.Round.again q ↦ Def.last_round (Def.round u x.priority now (waits_of f.announcer) q none) ]
+  run_on m = elim m [ Def.Round.over t ↦ t | Def.Round.again q ↦ Def.last_round (Def.round u x.priority now (waits_of f.announcer) q None) ]
 
   -- after the first round; at the end of a transfer, another
   second_means : {m : Def.Round} {a : Turn} → Rounds w f x m a → FileRuns w f x (run_on m) (again_by w now a a.answer)
@@ -177,7 +174,7 @@ module _ (u : Setup) (w now : ℕ) (window : u.window ≡ w) (f : Fdt) (x : Send
   second_means (sent k) = k
   second_means (ended g h e on) = on _ _ (
       let y = idle_of x.priority in
-      subst (λ b. FileRuns w g y (Def.last_round (Def.round u x.priority now (waits_of b) (queue_of g) none)) (taken_on_of w now g y)) e
+      subst (λ b. FileRuns w g y (Def.last_round (Def.round u x.priority now (waits_of b) (queue_of g) None)) (taken_on_of w now g y)) e
       (taken_on_means u w now window runs.narrow g h y refl))
 
   pub ran_means : FileRuns w f x (Def.file_run u x.priority now (waits_of f.announcer) (queue_of f) (session_of f.slots x).hand) (ran_of w now f x)
@@ -186,7 +183,7 @@ module _ (u : Setup) (w now : ℕ) (window : u.window ≡ w) (f : Fdt) (x : Send
     where
       -- both runs, by whether an object is in hand
       P : Bool → Type 0
-      P b = FileRuns w f x (Def.file_run u x.priority now (waits_of f.announcer) (queue_of f) (when b then some (in_hand f x) else none))
+      P b = FileRuns w f x (Def.file_run u x.priority now (waits_of f.announcer) (queue_of f) (when b then Some (in_hand f x) else None))
           (when b then again_by w now (attended_of now f x) (attended_of now f x).answer else taken_on_of w now f x)
 
       go : Tested x.busy → P x.busy
@@ -239,7 +236,7 @@ module _ (u : Setup) (w now : ℕ) (window : u.window ≡ w) (f : Fdt) (x : Send
       where
         -- the session in the definition's words, by whether an object is in hand
         S : Slot → Bool → Def.Session
-        S v b = record { priority = z.priority; hand = when b then some (hand_of v z) else none }
+        S v b = record { priority = z.priority; hand = when b then Some (hand_of v z) else None }
 
         go : Tested z.busy → session_of (ran_of w now f x).fdt.slots z ≡ session_of f.slots z
         go (pass b) = ap (λ v. S v z.busy) (other_slot b)

@@ -1,33 +1,35 @@
 -- Set-up: which numbers are in their ranges, and that the sender which it opens is the definition's opening desk.
 use mathlib.Core.Path.{◌≡◌, refl, sym, ◌∙◌, ap, subst}
-use mathlib.Core.Bool.{Bool, true, false, false≢true}
-use mathlib.Core.Option.{none, some}
+use mathlib.Core.Bool.{Bool, true, false, ◌&&◌, false≢true}
+use Rattle.std.specs.Prelude.{None, Some, Ok, Err}
+use Rattle.sizes.specs.declared.refusal.Refusal.TheVariants as Because
 use mathlib.Core.List.{List, [], ◌∷◌, map}
 use Prim.Native.Nat.{ℕ, zero, suc, ◌≤◌}
 use native.Mathlib.Omega.{arith}
-use lib.Dec.{eqb, leb}
+use lib.Dec.{leb}
 use lib.ListN.{length, get_or, take, replicate, length-replicate}
 use lib.Seq.{length-take-le}
-use borrow.Author.Tests.{eqb-true, eqb-false, ne_eqb, le-leb, le-ltb, leb-true}
+use borrow.Author.Tests.{le-leb, le-ltb, leb-true}
 use mir.Syntax.{w32}
 use mir.Val.{Fits}
 use Rattle.sizes.specs.Words.{when◌then◌else◌, all, has, within, collect, one_if, times}
-use Rattle.sizes.specs.Limits.{most_sessions, largest_priority, longest_store}
+use Rattle.sizes.specs.Limits.{most_sessions, largest_window, largest_priority, longest_store, largest_fdt_id}
 use Rattle.sizes.specs.Allocator as Alloc
 use Rattle.sizes.specs.declared.toiallocator.ToiAllocator.{ToiAllocator}
-use Rattle.sizes.specs.declared.toiallocator.ToiMaxLength.{ToiMaxLength}
-use Rattle.sizes.specs.declared.toiallocator.ToiMaxLength.TheVariants.{ToiMax16, ToiMax32, ToiMax48, ToiMax64}
 use Rattle.sizes.proofs.Tests.{Tested, pass, fail, tested}
+use Rattle.sizes.proofs.Widths.{a_wide}
 use Rattle.sizes.proofs.AllocatorViews.{opened_view, opened_next}
 use Rattle.lifecycle.specs.Lifecycle as Life
-use Rattle.lifecycle.specs.Setup.{sound, widths}
+use Rattle.lifecycle.specs.Setup.{sound, sound_sizes, widths}
+use Rattle.lifecycle.specs.FileDesc.{carousel_named}
+use Rattle.lifecycle.specs.declared.filedesc.Carousel.{Carousel}
+use Rattle.lifecycle.specs.declared.filedesc.Carousel.TheVariants as CarouselV
 use Rattle.lifecycle.specs.FdtCalls.{sends, used, opening_fdt}
 use Rattle.lifecycle.specs.FdtCalls.{ValidFdt}
 use Rattle.lifecycle.specs.declared.slots.Slot.{Slot}
 use Rattle.lifecycle.specs.declared.fdt.Fdt.{Fdt}
 use Rattle.lifecycle.specs.declared.fdt.Settings.{Settings}
-use Rattle.lifecycle.proofs.SetupLaws.{sizes_sound, told}
-use Rattle.lifecycle.proofs.SetupLaws.{passed, by_id}
+use Rattle.lifecycle.proofs.SetupLaws.{told, passed, sound_tests}
 use Rattle.lifecycle.proofs.FdtKeeps.{OpeningList, opening_list}
 use Rattle.lifecycle.proofs.PublishLaws.{valid_opened}
 use Rattle.definition.specs.Desk as Def
@@ -35,12 +37,9 @@ use Rattle.sender.proofs.SessionFacts.{idle_stands}
 use Rattle.sender.specs.SessionCalls.{idle_of, object_of, session_of}
 use Rattle.sender.specs.SessionMeans.{Stands, fdt_carousel_of}
 use Rattle.sender.specs.SenderCalls.{desk_of, Agrees, ValidSender, slot_in}
-use Rattle.sender.specs.SetupCalls.{carousel_said, priorities_said, setup_said, width_said, is_interval, interval_in, settings_of, priority_at, opening_sender, plain, refused_of, opened_of, Opens}
+use Rattle.sender.specs.SetupCalls.{priorities_said, setup_said, is_interval, interval_in, settings_of, priority_at, opening_sender, opened_of, Opens}
 use Rattle.sender.specs.declared.sendersession.SenderSession.{SenderSession}
 use Rattle.sender.specs.declared.setup.Setup.{Setup}
-use Rattle.sender.specs.declared.setup.FdtCarousel.{FdtCarousel}
-use Rattle.sender.specs.declared.setup.FdtCarousel.TheVariants as CarouselV
-use Rattle.sender.specs.declared.setup.Width.TheVariants as WidthV
 
 -- ---- every number in its range
 
@@ -73,69 +72,11 @@ module _ (z : Setup) where
       go (pass e) = rw e (small_all z.count z.priorities h)
       go (fail e) = rw e (zeros_all z.count)
 
--- ---- widths
-
-bits_has : (w : ToiMaxLength) → has (Alloc.bits w) widths ≡ true
-bits_has ToiMax16 = refl
-bits_has ToiMax32 = refl
-bits_has ToiMax48 = refl
-bits_has ToiMax64 = refl
-
-bits_said : (w : ToiMaxLength) → width_said (Alloc.bits w) ≡ WidthV.Is w
-unfolding width_said
-bits_said ToiMax16 = refl
-bits_said ToiMax32 = refl
-bits_said ToiMax48 = refl
-bits_said ToiMax64 = refl
-
--- a number is one of the four widths, or none of them
-data Wide (n : ℕ) : Type 0 where
-  one : (w : ToiMaxLength) → n ≡ Alloc.bits w → Wide n
-  other : has n widths ≡ false → width_said n ≡ WidthV.Bad → Wide n
-
-module _ (n : ℕ) where
-  wide : Wide n
-  unfolding width_said
-  wide = go (tested (eqb n 16)) (tested (eqb n 32)) (tested (eqb n 48)) (tested (eqb n 64))
-    where
-      turned : (m : ℕ) → eqb n m ≡ false → eqb m n ≡ false
-      turned m e = ne_eqb m n (λ q. eqb-false n m e (sym q))
-
-      go : Tested (eqb n 16) → Tested (eqb n 32) → Tested (eqb n 48) → Tested (eqb n 64) → Wide n
-      go (pass p) x y z = one ToiMax16 (eqb-true n 16 p)
-      go (fail p) (pass q) y z = one ToiMax32 (eqb-true n 32 q)
-      go (fail p) (fail q) (pass r) z = one ToiMax48 (eqb-true n 48 r)
-      go (fail p) (fail q) (fail r) (pass s) = one ToiMax64 (eqb-true n 64 s)
-      go (fail p) (fail q) (fail r) (fail s) = other (rw (turned 16 p, turned 32 q, turned 48 r, turned 64 s)) (rw (p, q, r, s))
-
-  unlike : (w : ToiMaxLength) → WidthV.Is w ≡ WidthV.Bad → ⊥
-  unlike w e = let x : ◌≡◌ {A = ℕ} 0 1 = cc in omega arith
-
-  -- what the code finds
-  pub width_bad : width_said n ≡ WidthV.Bad → has n widths ≡ false
-  width_bad e = go wide
-    where
-      go : Wide n → has n widths ≡ false
-      go (one w q) = absurd (unlike w (sym (ap width_said q ∙ bits_said w) ∙ e))
-      go (other h q) = h
-
-  pub width_is : (w : ToiMaxLength) → width_said n ≡ WidthV.Is w → n ≡ Alloc.bits w
-  width_is w e = go wide
-    where
-      go : Wide n → n ≡ Alloc.bits w
-      go (one v q) = let r = sym (ap width_said q ∙ bits_said v) ∙ e in let x : v ≡ w = cc in q ∙ ap Alloc.bits x
-      go (other h q) = absurd (unlike w (sym e ∙ q))
-
-  pub width_has : (w : ToiMaxLength) → width_said n ≡ WidthV.Is w → has n widths ≡ true
-  width_has w e = ap (λ m. has m widths) (width_is w e) ∙ bits_has w
-
-  -- one of the four
-  a_wide : has n widths ≡ true → Alloc.Width n
-  a_wide e = go wide
-    where
-      go : Wide n → Alloc.Width n
-      go (one w q) = (w, q)
-      go (other h q) = absurd (false≢true (sym h ∙ e))
+-- test by test, where every priority is in its range
+pub sound_by : (z : Setup) → ((i : ℕ) → Fits w32 (get_or z.priorities i 0)) → sound (setup_said z)
+    ≡ (within 1 most_sessions (length (priorities_said z)) && within 1 largest_window z.window && sound_sizes z.sizes
+    && leb z.object_store longest_store && leb z.fdt_store longest_store && has z.width widths && leb z.first_fdt_id largest_fdt_id)
+sound_by z h = sound_tests (setup_said z) (small_named z h)
 
 -- ---- the sessions of the opening sender
 
@@ -171,7 +112,7 @@ module _ (l : List ℕ) (n : ℕ) where
 
 -- those in use have the priorities that were named
 named : (t : List Slot) (l : List ℕ) (n : ℕ) → length l ≡ 4 → n ≤ 4
-    → map (session_of t) (take n (four (priority_at l n))) ≡ map (λ p. record { priority = p; hand = none }) (take n l)
+    → map (session_of t) (take n (four (priority_at l n))) ≡ map (λ p. record { priority = p; hand = None }) (take n l)
 unfolding priority_at
 named t (x ∷ y ∷ z ∷ w ∷ []) zero q h = refl
 named t (x ∷ y ∷ z ∷ w ∷ []) (suc zero) q h = refl
@@ -207,7 +148,7 @@ module _ (z : Setup) (long : length z.priorities ≡ most_sessions) (ok : sound 
   desk_opened =
       let o = opened_list in
       let q : (when leb z.count most_sessions then take z.count z.priorities else replicate z.count 0) ≡ take z.count z.priorities = rw (le-leb z.count most_sessions few) in
-      let e = named (opening_sender z).fdt.slots z.priorities z.count long few ∙ sym (ap (map (λ p. record { priority = p; hand = none })) q) in
+      let e = named (opening_sender z).fdt.slots z.priorities z.count long few ∙ sym (ap (map (λ p. record { priority = p; hand = None })) q) in
       let n = ap (λ (a : ToiAllocator). a.next) o.tois ∙ (opened_next z.width z.first_toi).0 in
       let l = ap Alloc.loose o.tois ∙ (opened_view z.width z.first_toi).0 in
       λ i. record {
@@ -216,7 +157,7 @@ module _ (z : Setup) (long : length z.priorities ≡ most_sessions) (ok : sound 
         loose = l i;
         queue = map object_of (o.queue i);
         sessions = e i;
-        fdt = record { state = o.side i; hand = none };
+        fdt = record { state = o.side i; hand = None };
       }
 
   agrees_opened : Agrees (setup_said z) (opening_sender z)
@@ -233,7 +174,7 @@ module _ (z : Setup) (long : length z.priorities ≡ most_sessions) (ok : sound 
         validity = ap (λ (x : Settings). x.validity) x;
       }
     where
-      by_carousel : (k : FdtCarousel) → carousel_said k ≡ (when is_interval k then Life.Carousel.interval (interval_in k) else Life.Carousel.delay (interval_in k))
+      by_carousel : (k : Carousel) → carousel_named k ≡ (when is_interval k then Life.Carousel.interval (interval_in k) else Life.Carousel.delay (interval_in k))
       by_carousel (CarouselV.Delay t) = refl
       by_carousel (CarouselV.Interval t) = refl
 
@@ -270,26 +211,18 @@ module _ (z : Setup) (long : length z.priorities ≡ most_sessions) (ok : sound 
 
 -- ---- set-up
 
-pub plain_sound : sound (setup_said plain) ≡ true
-plain_sound = by_id (setup_said plain) (record { sessions = refl; window = refl; sizes = sizes_sound plain.sizes refl refl; object_store = refl; fdt_store = refl; width = refl }) refl
-
 module _ (z : Setup) where
-  pub opens_not : sound (setup_said z) ≡ false → Opens z refused_of
+  pub opens_not : sound (setup_said z) ≡ false → Opens z (Err Because.SetUp)
   unfolding opened_of Def.set_up
-  opens_not q = record {
-    exact = rw q;
-    means = rw q;
-    agrees = λ h. absurd (false≢true h);
-    valid = (opening_kept plain refl plain_sound).valid;
-  }
+  opens_not q = record { exact = rw q; means = rw q; agrees = tt; valid = tt }
 
-  pub opens : length z.priorities ≡ most_sessions → sound (setup_said z) ≡ true → Opens z (record { ok = true; sender = opening_sender z })
+  pub opens : length z.priorities ≡ most_sessions → sound (setup_said z) ≡ true → Opens z (Ok (opening_sender z))
   unfolding opened_of Def.set_up
   opens long q =
       let k = opening_kept z long q in
       record {
         exact = rw q;
-        means = rw q (ap (λ x. (Def.Answer.done, some x)) (sym k.means));
-        agrees = λ h. k.agrees;
+        means = rw q (ap (λ x. (Def.Answer.done, Some x)) (sym k.means));
+        agrees = k.agrees;
         valid = k.valid;
       }

@@ -1,6 +1,6 @@
 -- The encoder as the code has it: what it means, and what each function makes of it.
 use Rattle.std.specs.Prelude.{◌≡◌, Bool, true, false, not, ◌&&◌, ◌||◌, List, map, ℕ, zero, suc, ◌+◌, ◌-◌, ◌*◌, ◌≤◌, ◌<◌, min, eqb, ltb, leb, length, get_or, take, set, replicate}
-use Rattle.std.proofs.Math.Option.{Option, none, some}
+use Rattle.std.specs.Prelude.{Option, None, Some}
 use Rattle.sizes.specs.Words.{when◌then◌else◌, all, shut, tally}
 use Rattle.sizes.specs.Limits.{wide, largest_block, largest_window}
 use Rattle.sizes.specs.Partition.{sbn, esi, blocks_of, symbols_in, first_symbol}
@@ -14,11 +14,6 @@ use Rattle.sender.specs.declared.blockencoder.Content.{Content}
 use Rattle.sender.specs.declared.blockencoder.BlockEncoder.{BlockEncoder}
 use Rattle.sender.specs.declared.blockencoder.Symbol.{Symbol}
 use Rattle.sender.specs.declared.blockencoder.Visit.{Visit}
-use Rattle.sender.specs.declared.blockencoder.Glance.{Glance}
-use Rattle.sender.specs.declared.blockencoder.Glance.TheVariants as GlanceV
-use Rattle.sender.specs.declared.blockencoder.Emitted.{Emitted}
-use Rattle.sender.specs.declared.blockencoder.Emitted.TheVariants.{One, Nothing}
-use Rattle.sender.specs.declared.blockencoder.Read.{Read}
 
 -- ---- what the records mean
 
@@ -35,9 +30,15 @@ encoder_of x = record { closable = x.closable; next = x.next; window = opened_bl
 abbrev pub symbol_said : Symbol → Def.Symbol
 symbol_said s = record { block = s.sbn; symbol = s.esi; symbols = s.symbols; payload = s.payload; transfer_length = s.transfer_length; close = s.close }
 
-abbrev pub emitted_said : Emitted → Option Def.Symbol
-emitted_said (One s) = some (symbol_said s)
-emitted_said Nothing = none
+-- a symbol, or that there is none to send
+abbrev pub emitted_said : Option Symbol → Option Def.Symbol
+emitted_said (Some s) = Some (symbol_said s)
+emitted_said None = None
+
+-- what a read answers, and the encoder after it
+pub record Read : Type 0 where
+  pub answer : Option Symbol
+  pub encoder : BlockEncoder
 
 -- ---- what every call keeps
 
@@ -186,8 +187,8 @@ unfoldable pub midway : BlockEncoder → Bool
 midway x = not x.stopped && x.begun && not (has_room x) && not (eqb x.filled 0) && not (stuck x) && goes_on x
 
 -- the next symbol, where reading it only moves its block and the index on
-unfoldable pub glance_of : BlockEncoder → Glance
-glance_of x = when midway x then GlanceV.One (visit_of false x) else GlanceV.Other
+unfoldable pub glance_of : BlockEncoder → Option Visit
+glance_of x = when midway x then Some (visit_of false x) else None
 
 -- a symbol was read, and the index moves on
 unfoldable pub moved_of : BlockEncoder → Visit → BlockEncoder
@@ -206,9 +207,9 @@ moved_of x v = record {
 -- with no block open: the one packet of an empty object, or none
 unfoldable pub emptied_of : BlockEncoder → Read
 emptied_of x =
-    when x.begun || not (eqb x.content.part.size 0) then record { answer = Nothing; encoder = x }
+    when x.begun || not (eqb x.content.part.size 0) then record { answer = None; encoder = x }
     else record {
-      answer = One record { sbn = sbn 0; esi = esi 0; symbols = 0; payload = record { start = x.content.part.start; size = 0 }; transfer_length = 0; close = true };
+      answer = Some record { sbn = sbn 0; esi = esi 0; symbols = 0; payload = record { start = x.content.part.start; size = 0 }; transfer_length = 0; close = true };
       encoder = record { content = x.content; width = x.width; closable = x.closable; begun = true; stopped = x.stopped; next = x.next; filled = x.filled; index = x.index; window = x.window };
     }
 
@@ -218,10 +219,10 @@ stopping_of force x = record { content = x.content; width = x.width; closable = 
 
 -- from a window that is ready
 unfoldable pub emitted_of : Bool → BlockEncoder → Read
-emitted_of force x = when eqb x.filled 0 then emptied_of x else record { answer = One (visit_of force x).symbol; encoder = moved_of x (visit_of force x) }
+emitted_of force x = when eqb x.filled 0 then emptied_of x else record { answer = Some (visit_of force x).symbol; encoder = moved_of x (visit_of force x) }
 
 unfoldable pub read_of : Bool → BlockEncoder → Read
-read_of force x = when x.stopped then record { answer = Nothing; encoder = x } else emitted_of force (ready_of (stopping_of force x))
+read_of force x = when x.stopped then record { answer = None; encoder = x } else emitted_of force (ready_of (stopping_of force x))
 
 -- ---- what read promises
 
@@ -241,7 +242,7 @@ pub record Reads (force : Bool) (x : BlockEncoder) (r : Read) : Type 0 where
 
 -- it only moves the block of the visit and the index on, and closes nothing
 pub record Steps (x : BlockEncoder) (v : Visit) : Type 0 where
-  pub read : read_of false x ≡ record { answer = One v.symbol; encoder = moved_of x v }
+  pub read : read_of false x ≡ record { answer = Some v.symbol; encoder = moved_of x v }
   pub begun : x.begun ≡ true
   pub place : v.place < x.filled
   pub block : v.symbol.sbn ≡ (open_at x v.place).sbn

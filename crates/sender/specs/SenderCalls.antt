@@ -1,31 +1,19 @@
 -- The sender as the code has it: the desk that it is, what every call keeps, what each call makes of it, and what is promised of each.
 use Rattle.std.specs.Prelude.{◌≡◌, Bool, true, false, List, map, ℕ, ◌<◌, ◌≤◌, eqb, ltb, length, get_or, take, set}
-use Rattle.std.proofs.Math.Option.{Option, none, some}
-use Rattle.sizes.specs.Words.{when◌then◌else◌, any, collect, Counts}
+use Rattle.std.specs.Prelude.{Option, None, Some, Result, Ok, Err}
+use Rattle.sizes.specs.Words.{when◌then◌else◌, over, any, collect, Counts}
 use Rattle.sizes.specs.declared.refusal.Refusal.{Refusal}
 use Rattle.sizes.specs.declared.refusal.Refusal.TheVariants as Because
 use Rattle.sizes.specs.Limits.{most_sessions, largest_window, longest_store}
 use Rattle.sizes.specs.Allocator as Alloc
-use Rattle.sizes.specs.declared.partition.Sizes.{Sizes}
 use Rattle.lifecycle.specs.Setup.{Setup as DefSetup}
 use Rattle.lifecycle.specs.FileDesc.{time_of, plan_named, carousel_named, target_named}
 use Rattle.lifecycle.specs.Slots.{no_slot, slot_at}
-use Rattle.lifecycle.specs.Announce.{draft_given}
-use Rattle.lifecycle.specs.FdtCalls.{sends, publication_said, transfers_said, real_draft, draft_test_of, reserved_of, released_of, added_of, removed_of, triggered_of, is_added_of, transfers_of, completed_of, publish_of}
+use Rattle.lifecycle.specs.FdtCalls.{sends, real_draft, draft_test_of, reserved_of, released_of, added_of, removed_of, triggered_of, is_added_of, transfers_of, completed_of, publish_of}
 use Rattle.lifecycle.specs.declared.parts.Part.{Part}
 use Rattle.lifecycle.specs.declared.filedesc.Time.{Time}
-use Rattle.lifecycle.specs.declared.announce.Draft.{Draft}
 use Rattle.lifecycle.specs.declared.fdt.Fdt.{Fdt}
-use Rattle.lifecycle.specs.declared.fdt.Own.{Own}
-use Rattle.lifecycle.specs.declared.fdt.Own.TheVariants as OwnV
-use Rattle.lifecycle.specs.declared.fdt.Named.{Named}
-use Rattle.lifecycle.specs.declared.fdt.Named.TheVariants as NamedV
 use Rattle.lifecycle.specs.declared.fdt.Request.{Request}
-use Rattle.lifecycle.specs.declared.fdt.Admission.{Admission}
-use Rattle.lifecycle.specs.declared.fdt.Admission.TheVariants as AdmissionV
-use Rattle.lifecycle.specs.declared.fdt.Transfers.{Transfers}
-use Rattle.lifecycle.specs.declared.fdt.DraftTest.{DraftTest}
-use Rattle.lifecycle.specs.declared.fdt.DraftTest.TheVariants as DraftTestV
 use Rattle.definition.specs.FdtSession.{Packet as DefPacket}
 use Rattle.definition.specs.Desk as Def
 use Rattle.sender.specs.EncoderCalls.{symbol_said}
@@ -33,20 +21,11 @@ use Rattle.sender.specs.SessionCalls.{Holds, session_of, idle_of, ran_of}
 use Rattle.sender.specs.FdtSessionCalls.{FdtHolds, fdt_idle_of, fdt_ran_of}
 use Rattle.sender.specs.SessionMeans.{queue_of, fdt_of, fdt_carousel_of, Stands, FdtInHand}
 use Rattle.sender.specs.declared.sendersession.SenderSession.{SenderSession}
-use Rattle.sender.specs.declared.fdtsession.FdtSession.{FdtSession}
 use Rattle.sender.specs.declared.sendersession.Outcome.{Outcome}
 use Rattle.sender.specs.declared.sendersession.Outcome.TheVariants as OutcomeV
 use Rattle.sender.specs.declared.sender.Sender.{Sender}
 use Rattle.sender.specs.declared.sender.Object.{Object}
 use Rattle.sender.specs.declared.sender.Packet.{Packet}
-use Rattle.sender.specs.declared.sender.RunAnswer.{RunAnswer}
-use Rattle.sender.specs.declared.sender.RunAnswer.TheVariants as RunV
-use Rattle.sender.specs.declared.sender.Reserving.{Reserving}
-use Rattle.sender.specs.declared.sender.Releasing.{Releasing}
-use Rattle.sender.specs.declared.sender.Adding.{Adding}
-use Rattle.sender.specs.declared.sender.Touching.{Touching}
-use Rattle.sender.specs.declared.sender.Publishing.{Publishing}
-use Rattle.sender.specs.declared.sender.Running.{Running}
 
 -- ---- the desk that a sender is
 
@@ -78,7 +57,7 @@ pub record Agrees (u : DefSetup) (s : Sender) : Type 0 where
 
 -- the slot that a session has in hand
 abbrev pub slot_in : SenderSession → Option ℕ
-slot_in x = when x.busy then some x.slot else none
+slot_in x = when x.busy then Some x.slot else None
 
 pub record ValidSender (s : Sender) : Type 0 where
   pub holds : Holds s.fdt
@@ -111,51 +90,75 @@ alloc_answer (Alloc.Said.toi n) = Def.Answer.number n
 alloc_answer Alloc.Said.done = Def.Answer.done
 alloc_answer (Alloc.Said.refused n) = Def.Answer.refused n
 
-abbrev pub add_answer : Admission → Def.Answer
-add_answer (AdmissionV.Toi t) = Def.Answer.number t
-add_answer (AdmissionV.Refused why) = Def.Answer.refused why
+abbrev pub add_answer : Result ℕ Refusal → Def.Answer
+add_answer (Ok t) = Def.Answer.number t
+add_answer (Err why) = Def.Answer.refused why
 
 abbrev pub packet_said : Packet → DefPacket
-packet_said p = record { id = when p.is_fdt then some p.fdt_id else none; toi = p.toi; symbol = symbol_said p.symbol }
+packet_said p = record { id = when p.is_fdt then Some p.fdt_id else None; toi = p.toi; symbol = symbol_said p.symbol }
+
+-- what a run gives: a packet or nothing, or why it is refused
+abbrev pub RunAnswer : Type 0
+RunAnswer = Result (Option Packet) Refusal
 
 -- the packet of an answer, if there is one
 abbrev pub packet_in : RunAnswer → Option DefPacket
-packet_in (RunV.Packet p) = some (packet_said p)
-packet_in RunV.Nothing = none
-packet_in (RunV.Refused why) = none
+packet_in (Ok (Some p)) = Some (packet_said p)
+packet_in (Ok None) = None
+packet_in (Err why) = None
 
 -- of a file session
 abbrev pub file_answer : RunAnswer → Def.Answer
-file_answer (RunV.Packet p) = Def.Answer.output (some (packet_said p))
-file_answer RunV.Nothing = Def.Answer.output none
-file_answer (RunV.Refused why) = Def.Answer.refused why
+file_answer (Ok (Some p)) = Def.Answer.output (Some (packet_said p))
+file_answer (Ok None) = Def.Answer.output None
+file_answer (Err why) = Def.Answer.refused why
 
 -- of the FDT session, with whether the draft was taken
 abbrev pub fdt_answer : Bool → RunAnswer → Def.Answer
-fdt_answer taken (RunV.Packet p) = Def.Answer.fdt_output taken (some (packet_said p))
-fdt_answer taken RunV.Nothing = Def.Answer.fdt_output taken none
-fdt_answer taken (RunV.Refused why) = Def.Answer.refused why
+fdt_answer taken (Ok (Some p)) = Def.Answer.fdt_output taken (Some (packet_said p))
+fdt_answer taken (Ok None) = Def.Answer.fdt_output taken None
+fdt_answer taken (Err why) = Def.Answer.refused why
 
 -- ---- what each call is on the definition's side
-
-abbrev pub named_said : Named → Option ℕ
-named_said (NamedV.Toi t) = some t
-named_said NamedV.Anew = none
-
-abbrev pub own_said : Own → Option Sizes
-own_said (OwnV.Sizes z) = some z
-own_said OwnV.SetUp = none
 
 abbrev pub object_said : Object → Def.Request
 object_said o = record {
   priority = o.priority;
   part = o.part;
-  own = own_said o.own;
-  plan = record { most = o.most; carousel = carousel_named o.carousel; target = target_named o.target; stop_at_once = o.stop_at_once };
+  own = o.own;
+  plan = record { most = o.most; carousel = over carousel_named o.carousel; target = target_named o.target; stop_at_once = o.stop_at_once };
   named_start = time_of o.start;
 }
 
 -- ---- what each call makes of the sender
+
+-- what a call answers, and the sender after it
+pub record Reserving : Type 0 where
+  pub answer : Result ℕ Refusal
+  pub sender : Sender
+
+pub record Releasing : Type 0 where
+  pub answer : Result (Unit {0}) Refusal
+  pub sender : Sender
+
+pub record Adding : Type 0 where
+  pub answer : Result ℕ Refusal
+  pub sender : Sender
+
+-- yes or no
+pub record Touching : Type 0 where
+  pub yes : Bool
+  pub sender : Sender
+
+pub record Publishing : Type 0 where
+  pub answer : Result (Unit {0}) Refusal
+  pub sender : Sender
+
+-- `taken`: did an FDT run take its draft
+pub record Running : Type 0 where
+  pub taken : Bool
+  pub answer : RunAnswer
+  pub sender : Sender
 
 -- the same with another list
 abbrev pub with_list : Sender → Fdt → Sender
@@ -187,25 +190,21 @@ has_priority p x = eqb x.priority p
 unfoldable pub request_of : Object → Request
 request_of o = record { priority = o.priority; part = o.part; own = o.own; plan = plan_named o.most o.carousel o.target o.stop_at_once; start = o.start }
 
-unfoldable pub adding_of : Object → Named → Sender → Adding
+unfoldable pub adding_of : Object → Option ℕ → Sender → Adding
 adding_of o named s =
     when any (has_priority o.priority) (working s)
     then (let r = added_of s.fdt (request_of o) named in record { answer = r.answer; sender = with_list s r.fdt })
-    else record { answer = AdmissionV.Refused Because.NoPriority; sender = s }
+    else record { answer = Err Because.NoPriority; sender = s }
 
 -- the answer of a session's run
 abbrev pub answer_of : Bool → ℕ → ℕ → Outcome → RunAnswer
-answer_of f toi id OutcomeV.Idle = RunV.Nothing
-answer_of f toi id OutcomeV.Over = RunV.Nothing
-answer_of f toi id (OutcomeV.Sent y) = RunV.Packet (record { is_fdt = f; toi = toi; fdt_id = id; symbol = y })
+answer_of f toi id OutcomeV.Idle = Ok None
+answer_of f toi id OutcomeV.Over = Ok None
+answer_of f toi id (OutcomeV.Sent y) = Ok (Some (record { is_fdt = f; toi = toi; fdt_id = id; symbol = y }))
 
 -- the sender with x for file session k
 abbrev pub with_session : ℕ → SenderSession → Sender → Sender
 with_session k x s = record { fdt = s.fdt; window = s.window; count = s.count; sessions = set s.sessions k x; fdt_session = s.fdt_session }
-
--- the sender with x for the FDT session
-abbrev pub with_fdt_session : FdtSession → Sender → Sender
-with_fdt_session x s = record { fdt = s.fdt; window = s.window; count = s.count; sessions = s.sessions; fdt_session = x }
 
 -- a run of file session i
 unfoldable pub running_of : ℕ → ℕ → Sender → Running
@@ -216,23 +215,18 @@ running_of i now s =
       answer = answer_of false (slot_at r.fdt.slots r.session.slot).file.toi 0 r.answer;
       sender = record { fdt = r.fdt; window = s.window; count = s.count; sessions = set s.sessions i r.session; fdt_session = s.fdt_session };
     })
-    else record { taken = false; answer = RunV.Refused Because.NoSession; sender = s }
-
--- why a draft is refused
-abbrev pub draft_answer : DraftTest → RunAnswer
-draft_answer DraftTestV.Good = RunV.Nothing
-draft_answer (DraftTestV.Refused why) = RunV.Refused why
+    else record { taken = false; answer = Err Because.NoSession; sender = s }
 
 -- a run of the FDT session with a draft that was looked at
-abbrev pub fdt_running_by : ℕ → Draft → Sender → Option Refusal → Running
-fdt_running_by now draft s none = let r = fdt_ran_of s.window now draft s.fdt s.fdt_session in record {
+abbrev pub fdt_running_by : ℕ → Option Part → Sender → Option Refusal → Running
+fdt_running_by now draft s None = let r = fdt_ran_of s.window now draft s.fdt s.fdt_session in record {
   taken = r.taken;
   answer = answer_of true 0 r.session.id r.answer;
   sender = record { fdt = r.fdt; window = s.window; count = s.count; sessions = s.sessions; fdt_session = r.session };
 }
-fdt_running_by now draft s (some why) = record { taken = false; answer = RunV.Refused why; sender = s }
+fdt_running_by now draft s (Some why) = record { taken = false; answer = Err why; sender = s }
 
-unfoldable pub fdt_running_of : ℕ → Draft → Sender → Running
+unfoldable pub fdt_running_of : ℕ → Option Part → Sender → Running
 fdt_running_of now draft s = fdt_running_by now (real_draft draft) s (draft_test_of (real_draft draft) s.fdt)
 
 -- ---- what is promised of each call: `exact` settles every field; `kept` says that it is the definition's
@@ -245,9 +239,9 @@ pub record Releases (t : ℕ) (s : Sender) (r : Releasing) : Type 0 where
   pub exact : r ≡ releasing_of t s
   pub kept : Kept s (Def.Call.release t) (alloc_answer (Alloc.known_said r.answer)) r.sender
 
-pub record Adds (o : Object) (named : Named) (s : Sender) (r : Adding) : Type 0 where
+pub record Adds (o : Object) (named : Option ℕ) (s : Sender) (r : Adding) : Type 0 where
   pub exact : r ≡ adding_of o named s
-  pub kept : Kept s (Def.Call.add (named_said named) (object_said o)) (add_answer r.answer) r.sender
+  pub kept : Kept s (Def.Call.add named (object_said o)) (add_answer r.answer) r.sender
 
 pub record Removes (t : ℕ) (s : Sender) (r : Touching) : Type 0 where
   pub exact : r ≡ removing_of t s
@@ -261,9 +255,9 @@ pub record Lists (t : ℕ) (s : Sender) (r : Bool) : Type 0 where
   pub exact : r ≡ is_added_of t s.fdt
   pub kept : Kept s (Def.Call.ask (Def.Question.listed t)) (Def.Answer.truth r) s
 
-pub record CountsTransfers (t : ℕ) (s : Sender) (r : Transfers) : Type 0 where
-  pub exact : transfers_said r ≡ transfers_of t s.fdt
-  pub kept : Kept s (Def.Call.ask (Def.Question.transfers t)) (Def.Answer.transferred (transfers_said r)) s
+pub record CountsTransfers (t : ℕ) (s : Sender) (r : Option ℕ) : Type 0 where
+  pub exact : r ≡ transfers_of t s.fdt
+  pub kept : Kept s (Def.Call.ask (Def.Question.transfers t)) (Def.Answer.transferred r) s
 
 pub record Completes (s r : Sender) : Type 0 where
   pub exact : r ≡ completing_of s
@@ -271,11 +265,11 @@ pub record Completes (s r : Sender) : Type 0 where
 
 pub record Publishes (now : ℕ) (c : Part) (s : Sender) (r : Publishing) : Type 0 where
   pub exact : r ≡ publishing_of now c s
-  pub kept : Kept s (Def.Call.publish now c) (alloc_answer (publication_said r.answer)) r.sender
+  pub kept : Kept s (Def.Call.publish now c) (alloc_answer (Alloc.known_said r.answer)) r.sender
 
-pub record RunsFdt (now : ℕ) (draft : Draft) (s : Sender) (r : Running) : Type 0 where
+pub record RunsFdt (now : ℕ) (draft : Option Part) (s : Sender) (r : Running) : Type 0 where
   pub exact : r ≡ fdt_running_of now draft s
-  pub kept : Kept s (Def.Call.run_fdt now (draft_given draft)) (fdt_answer r.taken r.answer) r.sender
+  pub kept : Kept s (Def.Call.run_fdt now draft) (fdt_answer r.taken r.answer) r.sender
 
 pub record RunsFile (i now : ℕ) (s : Sender) (r : Running) : Type 0 where
   pub exact : r ≡ running_of i now s

@@ -1,19 +1,16 @@
 -- Runs of the code: its calls from outside one after another, from an accepted set-up on, and what is promised of them. Statements only, proved in proofs/SenderRuns.
-use Rattle.std.specs.Prelude.{◌≡◌, Bool, true, not, ◌&&◌, List, [], ◌∷◌, map, ℕ}
+use Rattle.std.specs.Prelude.{◌≡◌, Bool, true, not, ◌&&◌, List, [], ◌∷◌, map, ℕ, Option}
 use Rattle.sizes.specs.Words.{when◌then◌else◌, given}
 use Rattle.sizes.specs.Allocator as Alloc
 use Rattle.lifecycle.specs.FileDesc.{time_of}
-use Rattle.lifecycle.specs.Announce.{draft_given}
-use Rattle.lifecycle.specs.FdtCalls.{is_added_of, transfers_of, publication_said}
+use Rattle.lifecycle.specs.FdtCalls.{is_added_of, transfers_of}
 use Rattle.lifecycle.specs.declared.parts.Part.{Part}
 use Rattle.lifecycle.specs.declared.filedesc.Time.{Time}
-use Rattle.lifecycle.specs.declared.announce.Draft.{Draft}
-use Rattle.lifecycle.specs.declared.fdt.Named.{Named}
 use Rattle.definition.specs.Desk as Def
 use Rattle.definition.specs.Apart as Apart
 use Rattle.definition.specs.Apart.{about, key, got_after, call_by, answer_by, turned_away, refusal_in, NumberOf}
 use Rattle.definition.specs.TotalPromises as Total
-use Rattle.sender.specs.SenderCalls.{desk_of, ValidSender, alloc_answer, add_answer, file_answer, fdt_answer, named_said, object_said, reserving_of, releasing_of, adding_of, removing_of, prompting_of, completing_of, publishing_of, running_of, fdt_running_of}
+use Rattle.sender.specs.SenderCalls.{desk_of, ValidSender, alloc_answer, add_answer, file_answer, fdt_answer, object_said, reserving_of, releasing_of, adding_of, removing_of, prompting_of, completing_of, publishing_of, running_of, fdt_running_of}
 use Rattle.sender.specs.SetupCalls.{setup_said, opening_sender}
 use Rattle.sender.specs.declared.sender.Sender.{Sender}
 use Rattle.sender.specs.declared.sender.Object.{Object}
@@ -23,28 +20,28 @@ use Rattle.sender.specs.declared.setup.Setup.{Setup}
 pub data SenderCall : Type 0 where
   reserve : SenderCall
   release : ℕ → SenderCall
-  add : Object → Named → SenderCall
+  add : Object → Option ℕ → SenderCall
   remove : ℕ → SenderCall
   trigger : ℕ → Time → SenderCall
   listed : ℕ → SenderCall
   transfers : ℕ → SenderCall
   complete : SenderCall
   publish : ℕ → Part → SenderCall  -- clock, content
-  run_fdt : ℕ → Draft → SenderCall  -- clock, draft
+  run_fdt : ℕ → Option Part → SenderCall  -- clock, draft
   run_file : ℕ → ℕ → SenderCall  -- session, clock
 
 -- which call of the definition it is
 abbrev pub call_said : SenderCall → Def.Call
 call_said reserve = Def.Call.reserve
 call_said (release t) = Def.Call.release t
-call_said (add o named) = Def.Call.add (named_said named) (object_said o)
+call_said (add o named) = Def.Call.add named (object_said o)
 call_said (remove t) = Def.Call.touch t Def.Touch.remove
 call_said (trigger t start) = Def.Call.touch t (Def.Touch.trigger (time_of start))
 call_said (listed t) = Def.Call.ask (Def.Question.listed t)
 call_said (transfers t) = Def.Call.ask (Def.Question.transfers t)
 call_said complete = Def.Call.complete
 call_said (publish now c) = Def.Call.publish now c
-call_said (run_fdt now draft) = Def.Call.run_fdt now (draft_given draft)
+call_said (run_fdt now draft) = Def.Call.run_fdt now draft
 call_said (run_file i now) = Def.Call.run_file i now
 
 -- what the code answers, by the table's numbers, and the sender that it leaves: the functions that its contracts are exact by
@@ -57,7 +54,7 @@ answered s (trigger t start) = (Def.Answer.truth (prompting_of t start s).yes, (
 answered s (listed t) = (Def.Answer.truth (is_added_of t s.fdt), s)
 answered s (transfers t) = (Def.Answer.transferred (transfers_of t s.fdt), s)
 answered s complete = (Def.Answer.done, completing_of s)
-answered s (publish now c) = (alloc_answer (publication_said (publishing_of now c s).answer), (publishing_of now c s).sender)
+answered s (publish now c) = (alloc_answer (Alloc.known_said (publishing_of now c s).answer), (publishing_of now c s).sender)
 answered s (run_fdt now draft) = (fdt_answer (fdt_running_of now draft s).taken (fdt_running_of now draft s).answer, (fdt_running_of now draft s).sender)
 answered s (run_file i now) = (file_answer (running_of i now s).answer, (running_of i now s).sender)
 

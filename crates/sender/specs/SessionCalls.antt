@@ -1,6 +1,6 @@
 -- The file sessions as the code has them: what they mean, and what each function makes of them.
 use Rattle.std.specs.Prelude.{◌≡◌, Bool, true, false, not, ◌&&◌, ◌||◌, List, ℕ, ◌+◌, ◌<◌, ◌≤◌, replicate}
-use Rattle.std.proofs.Math.Option.{none, some}
+use Rattle.std.specs.Prelude.{Option, None, Some}
 use Rattle.sizes.specs.Words.{when◌then◌else◌}
 use Rattle.sizes.specs.Limits.{wide, object_slots, largest_window}
 use Rattle.sizes.specs.Partition.{sbn, no_blocks}
@@ -13,20 +13,15 @@ use Rattle.lifecycle.specs.FdtCalls.{used, taken_of, done_of}
 use Rattle.lifecycle.specs.FdtCalls.{ValidFdt}
 use Rattle.lifecycle.specs.declared.filedesc.FileDesc.{FileDesc}
 use Rattle.lifecycle.specs.declared.slots.Slot.{Slot}
-use Rattle.sizes.specs.declared.place.Place.{Place}
-use Rattle.sizes.specs.declared.place.Place.TheVariants as PlaceV
 use Rattle.lifecycle.specs.declared.fdt.Fdt.{Fdt}
 use Rattle.definition.specs.Session as Def
 use Rattle.sender.specs.EncoderCalls.{no_open, encoder_of, new_of, read_of}
 use Rattle.sender.specs.EncoderCalls.{ValidEncoder}
 use Rattle.sender.specs.declared.blockencoder.BlockEncoder.{BlockEncoder}
-use Rattle.sender.specs.declared.blockencoder.Emitted.{Emitted}
-use Rattle.sender.specs.declared.blockencoder.Emitted.TheVariants as EmittedV
+use Rattle.sender.specs.declared.blockencoder.Symbol.{Symbol}
 use Rattle.sender.specs.declared.sendersession.SenderSession.{SenderSession}
 use Rattle.sender.specs.declared.sendersession.Outcome.{Outcome}
 use Rattle.sender.specs.declared.sendersession.Outcome.TheVariants.{Idle, Sent, Over}
-use Rattle.sender.specs.declared.sendersession.Serving.{Serving}
-use Rattle.sender.specs.declared.sendersession.Turn.{Turn}
 
 -- ---- what the records mean
 
@@ -38,7 +33,7 @@ abbrev pub hand_of : Slot → SenderSession → Def.Hand
 hand_of v x = record { object = object_of v.file; listed = v.listed; encoder = encoder_of x.encoder; pace = pace_said x.pace }
 
 abbrev pub session_of : List Slot → SenderSession → Def.Session
-session_of t x = record { priority = x.priority; hand = when x.busy then some (hand_of (slot_at t x.slot) x) else none }
+session_of t x = record { priority = x.priority; hand = when x.busy then Some (hand_of (slot_at t x.slot) x) else None }
 
 -- ---- what every call keeps
 
@@ -65,6 +60,15 @@ pub record Runs (f : Fdt) (w : ℕ) (x : SenderSession) : Type 0 where
   pub busy : x.busy ≡ true → Ready f x
 
 -- ---- what the functions make of them
+
+pub record Serving : Type 0 where
+  pub answer : Outcome
+  pub session : SenderSession
+
+pub record Turn : Type 0 where
+  pub answer : Outcome
+  pub fdt : Fdt
+  pub session : SenderSession
 
 -- no transfer: zeros
 abbrev pub no_encoder : BlockEncoder
@@ -99,9 +103,9 @@ unfoldable pub forced_slot : Slot → Bool
 forced_slot v = may_stop (plan_of v.file.plan) (life_of v.file.life) && not v.listed
 
 -- after a read that left the encoder y: the transfer is over, or a symbol was sent and the due time has moved
-abbrev pub service_by : SenderSession → BlockEncoder → Emitted → Serving
-service_by x y EmittedV.Nothing = record { answer = Over; session = x }
-service_by x y (EmittedV.One s) = record { answer = Sent s; session = record { priority = x.priority; busy = x.busy; slot = x.slot; pace = ticked_of x.pace; encoder = y } }
+abbrev pub service_by : SenderSession → BlockEncoder → Option Symbol → Serving
+service_by x y None = record { answer = Over; session = x }
+service_by x y (Some s) = record { answer = Sent s; session = record { priority = x.priority; busy = x.busy; slot = x.slot; pace = ticked_of x.pace; encoder = y } }
 
 -- nothing while an FDT is queued or before the due time; else a read
 unfoldable pub served_of : Bool → Bool → ℕ → SenderSession → Serving
@@ -122,9 +126,9 @@ attended_of now f x =
     ran_by now f x r.session r.answer
 
 -- with what was taken, if anything
-abbrev pub taken_by : ℕ → ℕ → Fdt → SenderSession → Place → Turn
-taken_by w now f x PlaceV.Nothing = record { answer = Idle; fdt = f; session = x }
-taken_by w now f x (PlaceV.At k) = attended_of now f (begun_of w now x.priority k (slot_at f.slots k).file)
+abbrev pub taken_by : ℕ → ℕ → Fdt → SenderSession → Option ℕ → Turn
+taken_by w now f x None = record { answer = Idle; fdt = f; session = x }
+taken_by w now f x (Some k) = attended_of now f (begun_of w now x.priority k (slot_at f.slots k).file)
 
 -- with nothing in hand: the first in the queue that may start is taken
 unfoldable pub taken_on_of : ℕ → ℕ → Fdt → SenderSession → Turn

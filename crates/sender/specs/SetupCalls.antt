@@ -1,15 +1,17 @@
 -- Set-up as the code has it: what it says, the sender that it opens, and what is promised of it.
+use Rattle.std.specs.Prelude.{◌≡◌, Bool, true, false, List, [], ◌∷◌, map, ℕ, ltb, leb, get_or, take, replicate}
+use Rattle.std.specs.Prelude.{Option, None, Some, Result, Ok, Err, IfOk}
+use Rattle.sizes.specs.declared.refusal.Refusal.{Refusal}
 use Rattle.sizes.specs.declared.refusal.Refusal.TheVariants as Because
-use Rattle.std.specs.Prelude.{◌≡◌, Bool, true, false, List, [], ◌∷◌, map, ℕ, eqb, ltb, leb, get_or, take, replicate}
-use Rattle.std.proofs.Math.Option.{none, some}
 use Rattle.sizes.specs.Words.{when◌then◌else◌}
 use Rattle.sizes.specs.Limits.{most_sessions}
 use Rattle.sizes.specs.Allocator as Alloc
-use Rattle.sizes.specs.declared.toiallocator.ToiMaxLength.TheVariants.{ToiMax16, ToiMax32, ToiMax48, ToiMax64}
-use Rattle.lifecycle.specs.Lifecycle as Life
 use Rattle.lifecycle.specs.Setup.{sound}
 use Rattle.lifecycle.specs.Setup.{Setup as DefSetup}
 use Rattle.lifecycle.specs.FdtCalls.{opening_fdt}
+use Rattle.lifecycle.specs.FileDesc.{carousel_named}
+use Rattle.lifecycle.specs.declared.filedesc.Carousel.{Carousel}
+use Rattle.lifecycle.specs.declared.filedesc.Carousel.TheVariants as CarouselV
 use Rattle.lifecycle.specs.declared.fdt.Settings.{Settings}
 use Rattle.definition.specs.Desk as Def
 use Rattle.sender.specs.SessionCalls.{idle_of}
@@ -17,17 +19,8 @@ use Rattle.sender.specs.FdtSessionCalls.{fdt_idle_of}
 use Rattle.sender.specs.SenderCalls.{desk_of, Agrees, ValidSender}
 use Rattle.sender.specs.declared.sender.Sender.{Sender}
 use Rattle.sender.specs.declared.setup.Setup.{Setup}
-use Rattle.sender.specs.declared.setup.FdtCarousel.{FdtCarousel}
-use Rattle.sender.specs.declared.setup.FdtCarousel.TheVariants as CarouselV
-use Rattle.sender.specs.declared.setup.Opened.{Opened}
-use Rattle.sender.specs.declared.setup.Width.{Width}
-use Rattle.sender.specs.declared.setup.Width.TheVariants as WidthV
 
 -- ---- what it says
-
-abbrev pub carousel_said : FdtCarousel → Life.Carousel
-carousel_said (CarouselV.Delay d) = Life.Carousel.delay d
-carousel_said (CarouselV.Interval d) = Life.Carousel.interval d
 
 -- as many priorities as it names sessions; where these are too many, what they are does not matter
 abbrev pub priorities_said : Setup → List ℕ
@@ -43,26 +36,17 @@ setup_said z = record {
   width = z.width;
   first = z.first_toi;
   first_id = z.first_fdt_id;
-  carousel = carousel_said z.carousel;
+  carousel = carousel_named z.carousel;
   validity = z.validity;
 }
 
--- a width by its number
-unfoldable pub width_said : ℕ → Width
-width_said n =
-    when eqb n 16 then WidthV.Is ToiMax16
-    else when eqb n 32 then WidthV.Is ToiMax32
-    else when eqb n 48 then WidthV.Is ToiMax48
-    else when eqb n 64 then WidthV.Is ToiMax64
-    else WidthV.Bad
-
 -- ---- the sender that it opens
 
-abbrev pub is_interval : FdtCarousel → Bool
+abbrev pub is_interval : Carousel → Bool
 is_interval (CarouselV.Delay d) = false
 is_interval (CarouselV.Interval d) = true
 
-abbrev pub interval_in : FdtCarousel → ℕ
+abbrev pub interval_in : Carousel → ℕ
 interval_in (CarouselV.Delay d) = d
 interval_in (CarouselV.Interval d) = d
 
@@ -89,33 +73,18 @@ opening_sender z = record {
   fdt_session = fdt_idle_of;
 }
 
--- the set-up of the sender that a refused set-up gives
-abbrev pub plain : Setup
-plain = record {
-  sizes = record { e = 1; b = 1 };
-  window = 1;
-  count = 1;
-  priorities = replicate most_sessions 0;
-  width = 16;
-  first_toi = 1;
-  first_fdt_id = 0;
-  validity = 0;
-  carousel = CarouselV.Delay 0;
-  object_store = 0;
-  fdt_store = 0;
-}
+unfoldable pub opened_of : Setup → Result Sender Refusal
+opened_of z = when sound (setup_said z) then Ok (opening_sender z) else Err Because.SetUp
 
--- what a refused set-up gives
-abbrev pub refused_of : Opened
-refused_of = record { ok = false; sender = opening_sender plain }
-
-unfoldable pub opened_of : Setup → Opened
-opened_of z = when sound (setup_said z) then record { ok = true; sender = opening_sender z } else refused_of
+-- what it says: done, with the desk that is opened; or refused, with none
+abbrev pub opening_said : Result Sender Refusal → Def.Answer × Option Def.Desk
+opening_said (Ok s) = (Def.Answer.done, Some (desk_of s))
+opening_said (Err why) = (Def.Answer.refused why, None)
 
 -- ---- what is promised: refusal 1 exactly where a number is out of its range, and the definition's opening desk where not
 
-pub record Opens (z : Setup) (r : Opened) : Type 0 where
+pub record Opens (z : Setup) (r : Result Sender Refusal) : Type 0 where
   pub exact : r ≡ opened_of z
-  pub means : Def.set_up (setup_said z) ≡ (when r.ok then (Def.Answer.done, some (desk_of r.sender)) else (Def.Answer.refused Because.SetUp, none))
-  pub agrees : r.ok ≡ true → Agrees (setup_said z) r.sender
-  pub valid : ValidSender r.sender
+  pub means : Def.set_up (setup_said z) ≡ opening_said r
+  pub agrees : IfOk r (Agrees (setup_said z))
+  pub valid : IfOk r ValidSender

@@ -25,6 +25,7 @@ pub fn no_open() -> Open
 }
 
 // How many symbols a block has.
+#[tactic(auto, using(sizes::proofs::Lengths::in_large, sizes::proofs::Lengths::in_small))]
 pub fn nb_source_symbols(p: Partition, k: Sbn) -> u64
     ensures { result ≡ symbols_in p k }
 {
@@ -37,8 +38,9 @@ pub fn nb_source_symbols(p: Partition, k: Sbn) -> u64
 
 impl Open {
     // Has it no symbol left?
-    pub fn is_empty(self, p: Partition) -> bool
-        ensures { result ≡ is_empty p self }
+    #[tactic(auto, unfolding(crate::specs::EncoderCalls::is_empty))]
+    pub fn is_empty(&self, p: Partition) -> bool
+        ensures { result ≡ is_empty p self.now }
     {
         nb_source_symbols(p, self.sbn) <= self.esi.0 as u64
     }

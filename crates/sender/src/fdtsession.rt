@@ -1,11 +1,12 @@
 // The FDT session: it sends the current FDT, and asks for the next (src/sender/sendersession.rs, with an FDT).
-ghost use Rattle.std.specs.Prelude.{◌≡◌, ◌||◌};
+ghost use Rattle.std.specs.Prelude.{◌≡◌, Bool};
 ghost use Rattle.sender.specs.FdtSessionCalls.{FdtRuns, FdtTries, left_of, fdt_idle_of, fdt_begun_of, fdt_sent_of, fdt_attempted_of, fdt_ran_of};
 
-use crate::blockencoder::{BlockEncoder, Emitted};
+use crate::blockencoder::BlockEncoder;
 use crate::sendersession::{Outcome, no_encoder};
-use lifecycle::announce::{Draft, Instance};
+use lifecycle::announce::Instance;
 use lifecycle::fdt::Fdt;
+use lifecycle::parts::Part;
 use sizes::partition::Sizes;
 
 // `id` is the FDT's in hand while `busy`.
@@ -17,27 +18,18 @@ pub struct FdtSession {
     pub encoder: BlockEncoder,
 }
 
-// What a run comes to, and whether it took the draft.
+// What a run comes to or gives, and whether it took the draft.
 #[derive(Clone, Copy)]
-pub struct FdtTurn {
+pub struct Drafted<A> {
     pub taken: bool,
-    pub answer: Outcome,
-    pub fdt: Fdt,
-    pub session: FdtSession,
+    pub answer: A,
 }
 
 // A draft that was taken is not there any more.
-fn left_draft(draft: Draft, taken: bool) -> Draft
+fn left_draft(draft: Option<Part>, taken: bool) -> Option<Part>
     ensures { result ≡ left_of draft taken }
 {
-    if taken { Draft::Missing } else { draft }
-}
-
-// Is one of them true?
-fn either(a: bool, b: bool) -> bool
-    ensures { result ≡ (a || b) }
-{
-    if a { true } else { b }
+    if taken { None } else { draft }
 }
 
 impl FdtSession {
@@ -53,8 +45,8 @@ impl FdtSession {
     }
 
     // The FDT that starts is in hand; an FDT has a carousel, so no packet of it closes.
-    fn begin(i: Instance, sizes: Sizes, width: usize) -> FdtSession
-        ensures { result ≡ fdt_begun_of width i.id i.part sizes }
+    fn begin(i: &Instance, sizes: Sizes, width: usize) -> FdtSession
+        ensures { result ≡ fdt_begun_of width i.now.id i.now.part sizes }
     {
         FdtSession {
             busy: true,
@@ -64,71 +56,63 @@ impl FdtSession {
     }
 
     // The next packet of what is in hand; at the end of its transfer it is done. It is never forced.
-    fn send(mut self, mut fdt: Fdt, now: u64, taken: bool) -> FdtTurn
-        requires { FdtRuns fdt self }
-        ensures { result ≡ fdt_sent_of now taken fdt self }
+    fn send(&mut self, fdt: &mut Fdt, now: u64) -> Outcome
+        requires { FdtRuns fdt.old self.old }
+        ensures { (taken : Bool) → fdt_sent_of now taken fdt.old self.old ≡ record { taken = taken; answer = result; fdt = fdt.new; session = self.new } }
     {
         if !self.busy {
-            return FdtTurn {
-                taken,
-                answer: Outcome::Idle,
-                fdt,
-                session: self,
-            };
+            return Outcome::Idle;
         }
-        let r = self.encoder.read(false);
-        let answer = r.answer;
-        let Emitted::One(s) = answer else {
-            fdt = fdt.fdt_transfer_done(now);
-            self = FdtSession::idle();
-            return FdtTurn {
-                taken,
-                answer: Outcome::Over,
-                fdt,
-                session: self,
-            };
-        };
-        let after = r.encoder;
-        self.encoder = after;
-        FdtTurn {
-            taken,
-            answer: Outcome::Sent(s),
-            fdt,
-            session: self,
+        if let Some(s) = self.encoder.read(false) {
+            return Outcome::Sent(s);
         }
+        fdt.fdt_transfer_done(now);
+        *self = FdtSession::idle();
+        Outcome::Over
     }
 
-    // With nothing in hand ask for the next FDT; then send.
-    fn attempt(mut self, mut fdt: Fdt, width: usize, now: u64, draft: Draft, taken: bool) -> FdtTurn
-        requires { FdtTries fdt width draft self }
-        ensures { result ≡ fdt_attempted_of width now draft taken fdt self }
+    // With nothing in hand ask for the next FDT; then send. The draft is there no more where `taken`.
+    fn attempt(
+        &mut self,
+        fdt: &mut Fdt,
+        width: usize,
+        now: u64,
+        draft: Option<Part>,
+        taken: bool,
+    ) -> Drafted<Outcome>
+        requires { FdtTries fdt.old width draft self.old }
+        ensures { fdt_attempted_of width now draft taken fdt.old self.old ≡ record { taken = result.taken; answer = result.answer; fdt = fdt.new; session = self.new } }
     {
         if self.busy {
-            return self.send(fdt, now, taken);
+            let answer = self.send(fdt, now);
+            return Drafted { taken, answer };
         }
-        let sizes = fdt.settings.sizes;
-        let n = fdt.get_next_fdt_transfer(now, left_draft(draft, taken));
-        let told = either(taken, n.taken);
-        fdt = n.fdt;
-        if n.starts {
-            self = FdtSession::begin(fdt.announcer.current, sizes, width);
-            return self.send(fdt, now, told);
+        let next = fdt.get_next_fdt_transfer(now, left_draft(draft, taken));
+        if next.starts {
+            *self = FdtSession::begin(&fdt.announcer.current, fdt.settings.sizes, width);
         }
-        self.send(fdt, now, told)
+        let answer = self.send(fdt, now);
+        Drafted {
+            taken: taken || next.taken,
+            answer,
+        }
     }
 
     // On the end of a transfer it goes round again, once.
-    pub(crate) fn run(self, fdt: Fdt, width: usize, now: u64, draft: Draft) -> FdtTurn
-        requires { FdtTries fdt width draft self }
-        ensures { result ≡ fdt_ran_of width now draft fdt self }
+    pub(crate) fn run(
+        &mut self,
+        fdt: &mut Fdt,
+        width: usize,
+        now: u64,
+        draft: Option<Part>,
+    ) -> Drafted<Outcome>
+        requires { FdtTries fdt.old width draft self.old }
+        ensures { fdt_ran_of width now draft fdt.old self.old ≡ record { taken = result.taken; answer = result.answer; fdt = fdt.new; session = self.new } }
     {
-        let a = self.attempt(fdt, width, now, draft, false);
-        let answer = a.answer;
-        if let Outcome::Over = answer {
-            let f = a.fdt;
-            let x = a.session;
-            return x.attempt(f, width, now, draft, a.taken);
+        let first = self.attempt(fdt, width, now, draft, false);
+        if let Outcome::Over = first.answer {
+            return self.attempt(fdt, width, now, draft, first.taken);
         }
-        a
+        first
     }
 }

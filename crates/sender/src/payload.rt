@@ -7,22 +7,17 @@ use crate::sender::RunAnswer;
 use lifecycle::parts::ends_past;
 
 // The part that a run's answer names, of the FDT store or the object store; the empty part of the object store where the store does not have it or there is no packet.
+#[tactic(auto, using(crate::proofs::PayloadLaws::cutting))]
 pub fn payload<'a>(objects: &'a [u8], fdts: &'a [u8], answer: RunAnswer) -> &'a [u8]
     ensures { result.now ≡ payload_of (record { of_objects = objects.now; of_fdts = fdts.now }) (packet_in answer) }
 {
-    let RunAnswer::Packet(p) = answer else {
+    let Ok(Some(p)) = answer else {
         return &objects[..0];
     };
-    let y = p.symbol;
-    let c = y.payload;
-    if p.is_fdt {
-        if ends_past(fdts.len() as u64, c) {
-            return &objects[..0];
-        }
-        return &fdts[c.start as usize..(c.start + c.size) as usize];
-    }
-    if ends_past(objects.len() as u64, c) {
+    let store = if p.is_fdt { fdts } else { objects };
+    let c = p.symbol.payload;
+    if ends_past(store.len() as u64, c) {
         return &objects[..0];
     }
-    &objects[c.start as usize..(c.start + c.size) as usize]
+    &store[c.start as usize..(c.start + c.size) as usize]
 }

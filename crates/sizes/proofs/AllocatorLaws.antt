@@ -1,6 +1,7 @@
 -- Laws of the allocator: what each call makes of the entries in use, and that the allocator stays valid.
-use Rattle.std.proofs.Common.{◌≡◌, ℕ, zero, suc, ◌%◌, ◌^◌, ◌<◌, ◌≤◌, Bool, true, false, not, eqb, ltb, List, [], ◌∷◌, ◌++◌, map, length, get_or, set, replicate, sym, refl, ap, ◌∙◌, subst, add-one, arith, lit≤, length-append, length-set, length-take-le, get_or-set_other, take-suc-set, ltb-true, le-ltb, lt-ltb, eqb-true}
-use mathlib.Core.Option.{Option, none, some}
+use Rattle.std.proofs.Common.{◌≡◌, ℕ, zero, suc, ◌%◌, ◌^◌, ◌<◌, ◌≤◌, Bool, true, false, not, eqb, ltb, List, [], ◌∷◌, ◌++◌, map, length, get_or, set, replicate, sym, refl, ap, ◌∙◌, subst, add-one, arith, lit≤, length-append, length-set, length-take-le, get_or-set_other, get_or-take, take-suc-set, ltb-true, le-ltb, lt-ltb, eqb-true}
+use Rattle.std.specs.Prelude.{Option, None, Some, Ok, Err}
+use Rattle.sizes.specs.declared.refusal.Refusal.TheVariants as Because
 use Prim.Native.Nat.{◌∣◌}
 use native.Mathlib.Nat.{mod-mod_of_dvd, dvd_of_mod-eq-zero}
 use lib.ListN.{length-replicate, length-map}
@@ -8,28 +9,15 @@ use lib.Seq.{take-set-lt}
 use Rattle.sizes.specs.Words.{when◌then◌else◌, maybe, over, given, cut, place, collect, Each, has, one_if, times}
 use Rattle.sizes.specs.Limits.{toi_entries}
 use Rattle.sizes.specs.Toi.{skip_zero, cut_to, first_toi, after, free_from, next_toi, Toi}
-use Rattle.sizes.specs.Allocator.{bits, Width, noted, held, loose_in, no_entry, entry_is, new_allocator, noting, moved_on, allocated_of, bound_at, Fresh, entry_gone, unchanged, changed, claimed_of, dropped_of, ValidAllocator, Searchable, Opened, Gives, Becomes}
+use Rattle.sizes.specs.Allocator.{bits, Width, noted, held, loose_in, no_entry, entry_is, new_allocator, noting, moved_on, Allocated, Changed, allocated_of, bound_at, Fresh, entry_gone, unchanged, changed, claimed_of, dropped_of, ValidAllocator, Searchable, Opened, Gives, Becomes}
 use Rattle.sizes.specs.declared.toiallocator.ToiMaxLength.{ToiMaxLength}
 use Rattle.sizes.specs.declared.toiallocator.ToiMaxLength.TheVariants.{ToiMax16, ToiMax32, ToiMax48, ToiMax64}
 use Rattle.sizes.specs.declared.toiallocator.Entry.{Entry}
 use Rattle.sizes.specs.declared.toiallocator.ToiAllocator.{ToiAllocator}
-use Rattle.sizes.specs.declared.toiallocator.Given.{Given}
-use Rattle.sizes.specs.declared.toiallocator.Allocated.{Allocated}
-use Rattle.sizes.specs.declared.toiallocator.Changed.{Changed}
 use Rattle.sizes.proofs.Tests.{Tested, pass, fail, tested, and_left, none≢some}
-use Rattle.sizes.proofs.Lists.{Hit, Sought, hit, miss, sought, at_take, each_append, each_cut, map_append, map_cut, map_set_same, times_append, times_cut, has_none, has_cut}
+use Rattle.sizes.proofs.Lists.{Hit, Sought, hit, miss, sought, at_take, at_get, each_append, each_cut, map_append, map_cut, map_set_same, times_append, times_cut, has_none, has_cut}
 use Rattle.sizes.proofs.Arrays.{getD_shut, take_shut, length_shut}
 use Rattle.sizes.proofs.ToiLaws.{first_range, next_range, next_free, next_first}
-
--- a width is 64 where it is none of the others
-pub width_64 : (n : ℕ) → Width n → (n ≡ 16 → ⊥) → (n ≡ 32 → ⊥) → (n ≡ 48 → ⊥) → n ≡ 64
-width_64 n u a b c = go u.0 u.1
-  where
-    go : (w : ToiMaxLength) → n ≡ bits w → n ≡ 64
-    go ToiMax16 e = absurd (a e)
-    go ToiMax32 e = absurd (b e)
-    go ToiMax48 e = absurd (c e)
-    go ToiMax64 e = e
 
 pub width_16 : (n : ℕ) → Width n → 16 ≤ n
 width_16 n u = subst (λ k. 16 ≤ k) (sym u.1) (go u.0)
@@ -119,11 +107,11 @@ module _ (a : ToiAllocator) (v : ValidAllocator a) where
   valid_allocated flag = go (tested (ltb a.entered toi_entries))
     where
       go : Tested (ltb a.entered toi_entries)
-          → ValidAllocator (when◌then◌else◌ {A = Allocated} (ltb a.entered toi_entries) (record { answer = Given.Number a.next; allocator = moved_on (noting flag a) }) (record { answer = Given.Full; allocator = a })).allocator
+          → ValidAllocator (when◌then◌else◌ {A = Allocated} (ltb a.entered toi_entries) (record { answer = Ok a.next; allocator = moved_on (noting flag a) }) (record { answer = Err Because.Full; allocator = a })).allocator
       go (pass e) = rw e (valid_given flag (ltb-true a.entered toi_entries e))
       go (fail e) = rw e v
 
-  accepted : (flag : Bool) → a.entered < toi_entries → allocated_of flag a ≡ record { answer = Given.Number a.next; allocator = moved_on (noting flag a) }
+  accepted : (flag : Bool) → a.entered < toi_entries → allocated_of flag a ≡ record { answer = Ok a.next; allocator = moved_on (noting flag a) }
   unfolding allocated_of
   accepted flag h = rw (lt-ltb a.entered toi_entries h)
 
@@ -219,8 +207,8 @@ loose_found t [] = refl
 loose_found t (e ∷ l) = go (tested e.loose) (tested (eqb e.toi t)) (loose_found t l)
   where
     suc_given : (o : Option ℕ) → given (over suc o) ≡ given o
-    suc_given none = refl
-    suc_given (some n) = refl
+    suc_given None = refl
+    suc_given (Some n) = refl
 
     go : Tested e.loose → Tested (eqb e.toi t) → given (place (entry_is t true) l) ≡ has t (collect loose_in l)
         → given (place (entry_is t true) (e ∷ l)) ≡ has t (collect loose_in (e ∷ l))
@@ -230,26 +218,37 @@ loose_found t (e ∷ l) = go (tested e.loose) (tested (eqb e.toi t)) (loose_foun
     go (fail p) (fail q) h = rw (q, p) (suc_given (place (entry_is t true) l) ∙ h)
 
 -- what a search says of the place that it found
-pub found_inside : (a : ToiAllocator) (t : ℕ) (flag : Bool) (i : ℕ) → place (entry_is t flag) (noted a) ≡ some i → i < a.entered
+pub found_inside : (a : ToiAllocator) (t : ℕ) (flag : Bool) (i : ℕ) → place (entry_is t flag) (noted a) ≡ Some i → i < a.entered
 found_inside a t flag i p = go (sought (entry_is t flag) (noted a))
   where
     go : Sought (entry_is t flag) (noted a) → i < a.entered
     go (hit n e h) = let s : n ≡ i = cc in subst (λ k. k < a.entered) s (at_take a.entries a.entered n e h.stands)
     go (miss q u) = absurd (none≢some (sym q ∙ p))
 
-pub claimed_some : (a : ToiAllocator) (t i : ℕ) → place (entry_is t true) (noted a) ≡ some i → claimed_of t a ≡ changed (bound_at a t i)
+pub found_toi : (a : ToiAllocator) → ValidAllocator a → (t : ℕ) (flag : Bool) (i : ℕ) (z : Entry) → place (entry_is t flag) (noted a) ≡ Some i → (get_or a.entries i z).toi ≡ t
+found_toi a v t flag i z p = go (sought (entry_is t flag) (noted a))
+  where
+    go : Sought (entry_is t flag) (noted a) → (get_or a.entries i z).toi ≡ t
+    go (hit n e h) =
+        let s : n ≡ i = cc in
+        let q : n < a.entered = at_take a.entries a.entered n e h.stands in
+        let g : get_or a.entries n z ≡ e = sym (get_or-take a.entered a.entries n z q) ∙ (at_get z (noted a) n e h.stands).0 in
+        subst (λ k. (get_or a.entries k z).toi ≡ t) s (ap (λ (x : Entry). x.toi) g ∙ named a v t flag n e h)
+    go (miss q u) = absurd (none≢some (sym q ∙ p))
+
+pub claimed_some : (a : ToiAllocator) (t i : ℕ) → place (entry_is t true) (noted a) ≡ Some i → claimed_of t a ≡ changed (bound_at a t i)
 unfolding claimed_of
 claimed_some a t i p = rw p
 
-pub claimed_none : (a : ToiAllocator) (t : ℕ) → place (entry_is t true) (noted a) ≡ none → claimed_of t a ≡ unchanged a
+pub claimed_none : (a : ToiAllocator) (t : ℕ) → place (entry_is t true) (noted a) ≡ None → claimed_of t a ≡ unchanged a
 unfolding claimed_of
 claimed_none a t p = rw p
 
-pub dropped_some : (a : ToiAllocator) (flag : Bool) (t i : ℕ) → place (entry_is t flag) (noted a) ≡ some i → dropped_of flag t a ≡ changed (entry_gone a i)
+pub dropped_some : (a : ToiAllocator) (flag : Bool) (t i : ℕ) → place (entry_is t flag) (noted a) ≡ Some i → dropped_of flag t a ≡ changed (entry_gone a i)
 unfolding dropped_of
 dropped_some a flag t i p = rw p
 
-pub dropped_none : (a : ToiAllocator) (flag : Bool) (t : ℕ) → place (entry_is t flag) (noted a) ≡ none → dropped_of flag t a ≡ unchanged a
+pub dropped_none : (a : ToiAllocator) (flag : Bool) (t : ℕ) → place (entry_is t flag) (noted a) ≡ None → dropped_of flag t a ≡ unchanged a
 unfolding dropped_of
 dropped_none a flag t p = rw p
 
@@ -267,11 +266,11 @@ search_start a s e =
 
 -- an accepted call of allocate, put together from its steps
 pub given_by : (a : ToiAllocator) (flag : Bool) (b : ToiAllocator) (n : ℕ) → a.entered < toi_entries → b ≡ noting flag a → n ≡ next_toi b.width (held b) b.next
-    → record { answer = Given.Number a.next; allocator = record { entries = b.entries; entered = b.entered; next = n; width = b.width } } ≡ allocated_of flag a
+    → record { answer = Ok a.next; allocator = record { entries = b.entries; entered = b.entered; next = n; width = b.width } } ≡ allocated_of flag a
 unfolding allocated_of moved_on
 given_by a flag b n h e q = rw (q, e, lt-ltb a.entered toi_entries h)
 
-pub full_by : (a : ToiAllocator) (flag : Bool) → toi_entries ≤ a.entered → record { answer = Given.Full; allocator = a } ≡ allocated_of flag a
+pub full_by : (a : ToiAllocator) (flag : Bool) → toi_entries ≤ a.entered → record { answer = Err Because.Full; allocator = a } ≡ allocated_of flag a
 unfolding allocated_of
 full_by a flag h = rw (le-ltb a.entered toi_entries h)
 

@@ -1,18 +1,15 @@
 -- What each call of the allocator does to the numbers of loose reservations and to those of objects.
 use Rattle.std.proofs.Common.{◌≡◌, ℕ, suc, ◌+◌, ◌<◌, ◌≤◌, Bool, true, false, not, ◌&&◌, eqb, ltb, List, [], ◌∷◌, ◌++◌, map, sym, refl, ap, ◌∙◌, true≢false, append-nil, arith, le-ltb, lt-ltb, eqb-true}
 use mathlib.Core.Bool.{false≢true}
-use mathlib.Core.Option.{Option, none, some}
+use Rattle.std.specs.Prelude.{Option, None, Some, Ok, Err}
+use Rattle.sizes.specs.declared.refusal.Refusal.TheVariants as Because
 use borrow.Author.Tests.{not-true}
 use Rattle.sizes.specs.Words.{when◌then◌else◌, maybe, given, keep, has, at, place, collect, one_if, times}
 use Rattle.sizes.specs.Limits.{toi_entries}
-use Rattle.sizes.specs.Allocator.{noted, held, loose_in, bound_in, loose, bound, entry_is, new_allocator, noting, moved_on, allocated_of, bound_at, entry_gone, unchanged, changed, claimed_of, dropped_of, ValidAllocator}
+use Rattle.sizes.specs.Allocator.{noted, held, loose_in, bound_in, loose, bound, entry_is, Allocated, Changed, new_allocator, noting, moved_on, allocated_of, bound_at, entry_gone, unchanged, changed, claimed_of, dropped_of, ValidAllocator}
 use Rattle.sizes.specs.declared.toiallocator.Entry.{Entry}
 use Rattle.sizes.specs.declared.toiallocator.ToiAllocator.{ToiAllocator}
 use Rattle.sizes.specs.Toi.{first_toi, next_toi}
-use Rattle.sizes.specs.declared.toiallocator.Allocated.{Allocated}
-use Rattle.sizes.specs.declared.toiallocator.Changed.{Changed}
-use Rattle.sizes.specs.declared.toiallocator.Given.TheVariants.{Number, Full}
-use Rattle.sizes.specs.declared.toiallocator.Known.TheVariants.{Done}
 use Rattle.sizes.proofs.Tests.{and_left, and_right, if_on, maybe_on}
 use Rattle.sizes.proofs.Lists.{Sought, hit, miss, sought, has_none}
 use Rattle.sizes.proofs.Collects.{keep_absent, adds, collect_append, collect_skip, collect_unset, collect_cons, collect_cut, collect_set, collect_keep}
@@ -30,14 +27,14 @@ split_in n [] = refl
 split_in n (e ∷ l) =
     let a = split_in n l in
     elim e.loose as (λ b. one_if (eqb e.toi n) + times n (map (λ (e : Entry). e.toi) l)
-    ≡ times n (maybe (collect loose_in l) (λ k. k ∷ collect loose_in l) (when b then some e.toi else none)) + times n (maybe (collect bound_in l) (λ k. k ∷ collect bound_in l) (when b then none else some e.toi)))
+    ≡ times n (maybe (collect loose_in l) (λ k. k ∷ collect loose_in l) (when b then Some e.toi else None)) + times n (maybe (collect bound_in l) (λ k. k ∷ collect bound_in l) (when b then None else Some e.toi)))
     [ true ↦ omega arith | false ↦ omega arith ]
 
 pub held_split : (a : ToiAllocator) (n : ℕ) → times n (held a) ≡ times n (loose a) + times n (bound a)
 held_split a n = split_in n (noted a)
 
 -- no entry is found: the number is no object's
-bound_none : (t : ℕ) (l : List Entry) → ((i : ℕ) (e : Entry) → at l i ≡ some e → entry_is t false e ≡ false) → times t (collect bound_in l) ≡ 0
+bound_none : (t : ℕ) (l : List Entry) → ((i : ℕ) (e : Entry) → at l i ≡ Some e → entry_is t false e ≡ false) → times t (collect bound_in l) ≡ 0
 unfolding entry_is
 bound_none t [] h = refl
 bound_none t (e ∷ l) h =
@@ -45,7 +42,7 @@ bound_none t (e ∷ l) h =
     let b = bound_none t l (λ i. h (suc i)) in
     let c = one e.loose (h 0 e refl) in omega arith
   where
-    one : (x : Bool) → (eqb e.toi t && not x) ≡ false → adds t (when x then none else some e.toi) ≡ 0
+    one : (x : Bool) → (eqb e.toi t && not x) ≡ false → adds t (when x then None else Some e.toi) ≡ 0
     one true q = refl
     one false q = head (eqb e.toi t) q
       where
@@ -55,14 +52,14 @@ bound_none t (e ∷ l) h =
 
 -- what a found entry gives
 module _ (t : ℕ) (e : Entry) where
-  loose_entry : entry_is t true e ≡ true → (loose_in e ≡ some t) × (bound_in e ≡ none)
+  loose_entry : entry_is t true e ≡ true → (loose_in e ≡ Some t) × (bound_in e ≡ None)
   unfolding entry_is
   loose_entry h =
       let n = eqb-true e.toi t (and_left (eqb e.toi t) e.loose h) in
       let l = and_right (eqb e.toi t) e.loose h in
       (rw (l, n), rw l)
 
-  bound_entry : entry_is t false e ≡ true → (loose_in e ≡ none) × (bound_in e ≡ some t)
+  bound_entry : entry_is t false e ≡ true → (loose_in e ≡ None) × (bound_in e ≡ Some t)
   unfolding entry_is
   bound_entry h =
       let n = eqb-true e.toi t (and_left (eqb e.toi t) (not e.loose) h) in
@@ -80,8 +77,8 @@ allocated_full a flag h = rw (le-ltb a.entered toi_entries h)
 
 -- a call of allocate, case by case: it gives the stored next number, or all entries are in use and nothing changes
 pub allocated_cases : (P : Allocated → Type 0) (flag : Bool) (a : ToiAllocator)
-    → (ltb a.entered toi_entries ≡ true → P (record { answer = Number a.next; allocator = moved_on (noting flag a) }))
-    → (ltb a.entered toi_entries ≡ false → P (record { answer = Full; allocator = a })) → P (allocated_of flag a)
+    → (ltb a.entered toi_entries ≡ true → P (record { answer = Ok a.next; allocator = moved_on (noting flag a) }))
+    → (ltb a.entered toi_entries ≡ false → P (record { answer = Err Because.Full; allocator = a })) → P (allocated_of flag a)
 unfolding allocated_of
 allocated_cases P flag a fresh full = if_on P (ltb a.entered toi_entries) fresh full
 
@@ -163,7 +160,7 @@ module _ (a : ToiAllocator) (v : ValidAllocator a) where
   unfolding dropped_of entry_gone
   released_view t = go (sought (entry_is t true) (noted a))
     where
-      absent : place (entry_is t true) (noted a) ≡ none → times t (loose a) ≡ 0
+      absent : place (entry_is t true) (noted a) ≡ None → times t (loose a) ≡ 0
       absent p = has_none t (loose a) (sym (loose_found t (noted a)) ∙ ap given p)
 
       go : Sought (entry_is t true) (noted a) → Released t a (maybe (unchanged a) (λ i. changed (entry_gone a i)) (place (entry_is t true) (noted a))).allocator
@@ -221,10 +218,19 @@ unfolding dropped_of
 released_none a t h = go (place (entry_is t true) (noted a)) refl
   where
     go : (o : Option ℕ) → place (entry_is t true) (noted a) ≡ o → maybe (unchanged a) (λ i. changed (entry_gone a i)) (place (entry_is t true) (noted a)) ≡ unchanged a
-    go none p = rw p
-    go (some i) p = absurd (true≢false (ap given (sym p) ∙ loose_found t (noted a) ∙ h))
+    go None p = rw p
+    go (Some i) p = absurd (true≢false (ap given (sym p) ∙ loose_found t (noted a) ∙ h))
 
-pub released_some : (a : ToiAllocator) (t : ℕ) → has t (loose a) ≡ true → (dropped_of true t a).answer ≡ Done
+pub released_some : (a : ToiAllocator) (t : ℕ) → has t (loose a) ≡ true → (dropped_of true t a).answer ≡ Ok tt
 unfolding dropped_of
-released_some a t h = maybe_on (λ (x : Changed). x.answer ≡ Done) (place (entry_is t true) (noted a))
+released_some a t h = maybe_on (λ (x : Changed). x.answer ≡ Ok tt) (place (entry_is t true) (noted a))
     (λ e. absurd (false≢true (ap given (sym e) ∙ loose_found t (noted a) ∙ h))) (λ i e. refl)
+
+-- a loose number can be claimed
+pub claimed_done : (a : ToiAllocator) (t : ℕ) → has t (loose a) ≡ true → (claimed_of t a).answer ≡ Ok tt
+unfolding claimed_of
+claimed_done a t h = go (place (entry_is t true) (noted a)) (loose_found t (noted a) ∙ h)
+  where
+    go : (o : Option ℕ) → given o ≡ true → (maybe (unchanged a) (λ i. changed (bound_at a t i)) o).answer ≡ Ok tt
+    go None e = absurd (false≢true e)
+    go (Some i) e = refl

@@ -1,5 +1,5 @@
 -- Laws on numbers: two cases of an order, and quotients, exact and rounded up.
-use Rattle.std.proofs.Common.{◌≡◌, ℕ, ◌+◌, ◌-◌, ◌*◌, ◌/◌, ◌%◌, ◌<◌, ◌≤◌, Bool, true, false, ltb, ◌⊎◌, refl, ap, ◌∙◌, inl, inr, ⊎_elim, mod-lt, mul_comm, div-lt_iff_lt-mul, add-mul, lt_of_mul-lt-mul_right, one-mul, div-add-mod', le-div_iff_mul-le, zero-mul, div-mul-le_self, arith, ltb-false, ltb-true}
+use Rattle.std.proofs.Common.{◌≡◌, ℕ, ◌+◌, ◌-◌, ◌*◌, ◌/◌, ◌%◌, ◌<◌, ◌≤◌, Bool, true, false, ltb, ◌⊎◌, refl, ap, ◌∙◌, inl, inr, ⊎_elim, mod-lt, add-mul, lt_of_mul-lt-mul_right, one-mul, div-add-mod', zero-mul, div-mul-le_self, arith, ltb-false, ltb-true}
 use native.Mathlib.Nat.{lt-div-mul-add, div-eq_of_lt-le}
 use Rattle.sizes.specs.Words.{ceil}
 
@@ -14,14 +14,6 @@ below_or a b = told (ltb a b) refl
 -- one more group of b
 pub one_more : (n b : ℕ) → (n + 1) * b ≡ n * b + b
 one_more n b = add-mul n 1 b ∙ ap (λ (m : ℕ). n * b + m) (one-mul b)
-
--- a product is compared by a quotient
-module _ (a b m : ℕ) (some : 0 < a) where
-  pub product_within : b ≤ m / a → a * b ≤ m
-  product_within h = rw (mul_comm a b) ((le-div_iff_mul-le some).0 h)
-
-  pub product_past : m / a < b → m < a * b
-  product_past h = rw (mul_comm a b) ((div-lt_iff_lt-mul some).0 h)
 
 module _ (a b : ℕ) (some : 0 < b) where
   pub ceil_exact : a % b ≡ 0 → ceil a b ≡ a / b

@@ -1,63 +1,36 @@
--- Laws of arrays with a length: a search over the first n elements, a gap that is closed, a change of each element.
-use Rattle.std.proofs.Common.{◌≡◌, ℕ, zero, suc, ◌+◌, ◌-◌, ◌<◌, ◌≤◌, Bool, true, false, List, [], ◌∷◌, ◌++◌, map, length, get_or, take, drop, set, refl, ap, ◌∙◌, add-one, arith, length-set, drop_of_length-le, length-take-le, drop-cons, get_or-take}
-use mathlib.Core.Option.{Option, none, some}
-use Rattle.sizes.specs.Words.{over, any, all, cut, place, shut, Each}
+-- Laws of arrays with a length: the library's searches in the words of the definitions, a gap that is closed, a change of each element.
+use Rattle.std.proofs.Common.{◌≡◌, ℕ, zero, suc, ◌+◌, ◌-◌, ◌<◌, ◌≤◌, Bool, true, false, cond, ◌&&◌, ◌||◌, List, [], ◌∷◌, ◌++◌, map, length, get_or, take, drop, set, sym, refl, ap, ◌∙◌, add-one, arith}
+use Rattle.std.specs.Prelude.{Option, None, Some}
+use Rattle.std.specs.List.{copy_within, list_all, list_any, position, position_from}
+use Rattle.std.proofs.lemmas.Iterator.Adapters.{position_from-zero}
+use Rattle.sizes.specs.Words.{when◌then◌else◌, over, any, all, cut, place, shut, Each}
 
--- a search from the front over the first n elements: what is left to do after i turns comes to the same
-module _ {A : Type 0} (ok : A → Bool) (n : ℕ) (l : List A) (long : n ≤ length l) (i : ℕ) where
-  inside : i < n → i < length (take n l)
-  inside h = rw (length-take-le n l long) h
+-- the library's words for a search come to the same
+pub any_is : {A : Type 0} (ok : A → Bool) (l : List A) → list_any ok l ≡ any ok l
+any_is ok [] = refl
+any_is ok (a ∷ l) = ap (λ b. ok a || b) (any_is ok l)
 
-  past : n ≤ i → length (take n l) ≤ i
-  past h = rw (length-take-le n l long) h
-
-  next : (z : A) → i < n → drop i (take n l) ≡ get_or l i z ∷ drop (i + 1) (take n l)
-  next z h = drop-cons (take n l) i z (inside h) ∙ rw (get_or-take n l i z h, add-one)
-
-  pub any_hit : (z : A) → i < n → ok (get_or l i z) ≡ true → any ok (drop i (take n l)) ≡ true
-  any_hit z h e = rw (next z h, e)
-
-  pub any_miss : (z : A) → i < n → ok (get_or l i z) ≡ false → any ok (drop i (take n l)) ≡ any ok (drop (i + 1) (take n l))
-  any_miss z h e = rw (next z h, e)
-
-  pub any_end : n ≤ i → any ok (drop i (take n l)) ≡ false
-  any_end h = rw (drop_of_length-le (take n l) (past h))
-
-  pub all_hit : (z : A) → i < n → ok (get_or l i z) ≡ true → all ok (drop i (take n l)) ≡ all ok (drop (i + 1) (take n l))
-  all_hit z h e = rw (next z h, e)
-
-  pub all_miss : (z : A) → i < n → ok (get_or l i z) ≡ false → all ok (drop i (take n l)) ≡ false
-  all_miss z h e = rw (next z h, e)
-
-  pub all_end : n ≤ i → all ok (drop i (take n l)) ≡ true
-  all_end h = rw (drop_of_length-le (take n l) (past h))
-
-  -- the place that is still to be found, counted from the front
-  abbrev pub ahead : Option ℕ
-  ahead = over (λ k. i + k) (place ok (drop i (take n l)))
-
-  pub place_hit : (z : A) → i < n → ok (get_or l i z) ≡ true → ahead ≡ some i
-  place_hit z h e = rw (next z h, e) (ap some (let r : i + 0 ≡ i = omega arith in r))
-
-  pub place_end : n ≤ i → ahead ≡ none
-  place_end h = rw (drop_of_length-le (take n l) (past h))
+pub all_is : {A : Type 0} (ok : A → Bool) (l : List A) → list_all ok l ≡ all ok l
+all_is ok [] = refl
+all_is ok (a ∷ l) = ap (λ b. ok a && b) (all_is ok l)
 
 pub over_over : {A B C : Type 0} (f : B → C) (g : A → B) (h : A → C) → ((a : A) → f (g a) ≡ h a) → (o : Option A) → over f (over g o) ≡ over h o
-over_over f g h e none = refl
-over_over f g h e (some a) = ap some (e a)
+over_over f g h e None = refl
+over_over f g h e (Some a) = ap Some (e a)
 
-pub place_start : {A : Type 0} (ok : A → Bool) (n : ℕ) (l : List A) (long : n ≤ length l) → ahead ok n l long 0 ≡ place ok (take n l)
-place_start ok n l long = same (place ok (take n l))
+over_zero : (o : Option ℕ) → over (λ k. 0 + k) o ≡ o
+over_zero None = refl
+over_zero (Some k) = ap Some (let r : 0 + k ≡ k = omega arith in r)
+
+pub position_is : {A : Type 0} (ok : A → Bool) (l : List A) → position ok l ≡ place ok l
+position_is ok l = position_from-zero ok l ∙ from 0 l ∙ over_zero (place ok l)
   where
-    same : (o : Option ℕ) → over (λ k. 0 + k) o ≡ o
-    same none = refl
-    same (some k) = ap some (let r : 0 + k ≡ k = omega arith in r)
-
-pub place_miss : {A : Type 0} (ok : A → Bool) (n : ℕ) (l : List A) (long : n ≤ length l) (i : ℕ) (z : A) → i < n → ok (get_or l i z) ≡ false
-    → ahead ok n l long i ≡ ahead ok n l long (i + 1)
-place_miss ok n l long i z h e =
-    rw (next ok n l long i z h, e)
-    (over_over (λ k. i + k) suc (λ k. i + 1 + k) (λ k. omega arith) (place ok (drop (i + 1) (take n l))))
+    from : (i : ℕ) (l : List _) → position_from ok i l ≡ over (λ k. i + k) (place ok l)
+    from i [] = refl
+    from i (a ∷ l) = elim (ok a) as (λ t. cond t (Some i) (position_from ok (i + 1) l) ≡ over (λ k. i + k) (when t then Some 0 else over suc (place ok l))) [
+      | true ↦ ap Some (let r : i ≡ i + 0 = omega arith in r)
+      | false ↦ from (i + 1) l ∙ sym (over_over (λ k. i + k) suc (λ k. i + 1 + k) (λ k. omega arith) (place ok l))
+    ]
 
 -- an element of the first n has what each of them has
 pub each_get : {A : Type 0} (P : A → Type 0) (n : ℕ) (l : List A) → n ≤ length l → (i : ℕ) (z : A) → i < n → Each P (take n l) → P (get_or l i z)
@@ -108,37 +81,25 @@ module _ {A : Type 0} (z : A) where
       end (a ∷ l) = ap suc (end l)
   length_shut (a ∷ l) (suc i) h = ap suc (length_shut l i (omega arith))
 
-  -- each later element moves up by one, a turn for each: what is left to do comes to the same
-  shut_more : (l : List A) (j : ℕ) → j + 1 < length l → shut z (set l j (get_or l (j + 1) z)) (j + 1) ≡ shut z l j
-  shut_more l j h = rw add-one (go l j (rw add-one at h))
-    where
-      go : (l : List A) (j : ℕ) → suc j < length l → shut z (set l j (get_or l (suc j) z)) (suc j) ≡ shut z l j
-      go [] j h = absurd (omega arith)
-      go (x ∷ []) j h = absurd (omega arith)
-      go (x ∷ y ∷ l) zero h = refl
-      go (x ∷ y ∷ l) (suc j) h = ap (λ t. x ∷ t) (go (y ∷ l) j (omega arith))
+  -- the later ones copied one place up, and z put last
+  module _ (l : List A) where
+    front : (x : A) (r : List A) (n m : ℕ) → n ≡ m → length r ≡ m → set (take n r ++ drop m (x ∷ r)) m z ≡ r ++ (z ∷ [])
+    front x [] n zero e h = rw e
+    front x (y ∷ r) n zero e h = absurd (omega arith)
+    front x [] n (suc m) e h = absurd (omega arith)
+    front x (y ∷ r) zero (suc m) e h = absurd (omega arith)
+    front x (y ∷ r) (suc n) (suc m) e h = ap (λ t. y ∷ t) (front y r n m (omega arith) (omega arith))
 
-  shut_end : (l : List A) (j : ℕ) → length l ≡ j + 1 → set l j z ≡ shut z l j
-  shut_end [] j h = absurd (omega arith)
-  shut_end (x ∷ []) zero h = refl
-  shut_end (x ∷ y ∷ l) zero h = absurd (omega arith)
-  shut_end (x ∷ l) (suc j) h = ap (λ t. x ∷ t) (shut_end l j (omega arith))
+    moved : (l : List A) (i n m : ℕ) → m ≡ i + n → length l ≡ suc m → set (take i l ++ take n (drop (suc i) l) ++ drop m l) m z ≡ shut z l i
+    moved [] i n m e h = absurd (omega arith)
+    moved (x ∷ l) zero n m e h = front x l n m (omega arith) (omega arith)
+    moved (x ∷ l) (suc i) n zero e h = absurd (omega arith)
+    moved (x ∷ l) (suc i) n (suc m) e h = ap (λ t. x ∷ t) (moved l i n m (omega arith) (omega arith))
 
-  -- a loop that closes the gap at i of an array l whose last place is `last`: m is what it has when place j is the gap
-  pub record Closing (last : ℕ) (l : List A) (i : ℕ) (m : List A) (j : ℕ) : Type 0 where
-    pub low : j ≤ last
-    pub sized : length m ≡ last + 1
-    pub same : shut z m j ≡ shut z l i
-
-  module _ {last : ℕ} {l : List A} {i : ℕ} where
-    pub closing_starts : i ≤ last → length l ≡ last + 1 → Closing last l i l i
-    closing_starts h e = record { low = h; sized = e; same = refl }
-
-    pub closing_more : {m : List A} {j : ℕ} → Closing last l i m j → j < last → Closing last l i (set m j (get_or m (j + 1) z)) (j + 1)
-    closing_more {m} {j} c h = record { low = omega arith; sized = simp length-set c.sized; same = shut_more m j (omega arith) ∙ c.same }
-
-    pub closing_ends : {m : List A} {j : ℕ} → Closing last l i m j → last ≤ j → set m last z ≡ shut z l i
-    closing_ends {m} {j} c h = let e : j ≡ last = omega arith in shut_end m last c.sized ∙ (rw e at c.same)
+    pub shut_by_copy : (i : ℕ) → i < length l → set (copy_within l (i + 1) (length l) i) (length l - 1) z ≡ shut z l i
+    shut_by_copy i h =
+        let e : i + (length l - suc i) ≡ length l - 1 = omega arith in
+        rw (add-one, e) (moved l i (length l - suc i) (length l - 1) (omega arith) (omega arith))
 
 -- a loop that puts f of each element in its place, one a turn: what it has after i turns
 module _ {A : Type 0} (f : A → A) where

@@ -9,5 +9,6 @@ pub mod Arithmetic
 pub mod Lengths
 pub mod PartitionLaws
 pub mod ToiLaws
+pub mod Widths
 pub mod AllocatorLaws
 pub mod AllocatorViews

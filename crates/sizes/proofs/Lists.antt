@@ -1,22 +1,22 @@
 -- Laws of lists: what a search comes to, how often a number stands in a list, a place left out.
 use Rattle.std.proofs.Common.{◌≡◌, ℕ, zero, suc, ◌+◌, ◌<◌, ◌≤◌, Bool, true, false, ◌||◌, eqb, List, [], ◌∷◌, ◌++◌, map, length, get_or, take, set, sym, refl, ap, ◌∙◌, subst, true≢false, arith, eqb-true}
 use mathlib.Core.Bool.{false≢true}
-use mathlib.Core.Option.{none, some}
+use Rattle.std.specs.Prelude.{None, Some}
 use Rattle.sizes.specs.Words.{when◌then◌else◌, over, any, find, drop_first, first_of, at, cut, place, Each, has, one_if, times}
 use Rattle.sizes.proofs.Tests.{Tested, pass, fail, tested, none≢some}
 
 -- a search finds a, at place n
 pub record Hit {A : Type 0} (ok : A → Bool) (l : List A) (n : ℕ) (a : A) : Type 0 where
-  pub found : place ok l ≡ some n
-  pub stands : at l n ≡ some a
+  pub found : place ok l ≡ Some n
+  pub stands : at l n ≡ Some a
   pub passes : ok a ≡ true
-  pub first : find ok l ≡ some a
+  pub first : find ok l ≡ Some a
   pub rest : drop_first ok l ≡ cut l n
 
 -- what a search comes to
 pub data Sought {A : Type 0} (ok : A → Bool) (l : List A) : Type 0 where
   hit : (n : ℕ) (a : A) → Hit ok l n a → Sought ok l
-  miss : place ok l ≡ none → ((i : ℕ) (a : A) → at l i ≡ some a → ok a ≡ false) → Sought ok l
+  miss : place ok l ≡ None → ((i : ℕ) (a : A) → at l i ≡ Some a → ok a ≡ false) → Sought ok l
 
 pub sought : {A : Type 0} (ok : A → Bool) (l : List A) → Sought ok l
 sought ok [] = miss refl (λ i a e. absurd (none≢some e))
@@ -33,12 +33,12 @@ sought ok (a ∷ l) = go (tested (ok a)) (sought ok l)
     })
     go (fail e) (miss p u) = miss (rw (e, p)) (λ i b q. none_at i b q)
       where
-        none_at : (i : ℕ) (b : _) → at (a ∷ l) i ≡ some b → ok b ≡ false
+        none_at : (i : ℕ) (b : _) → at (a ∷ l) i ≡ Some b → ok b ≡ false
         none_at zero b q = let s : a ≡ b = cc in subst (λ x. ok x ≡ false) s e
         none_at (suc i) b q = u i b q
 
 -- where a search said that it stands
-pub found_first : {A : Type 0} (ok : A → Bool) (l : List A) (n : ℕ) → place ok l ≡ some n → (a : A) × Hit ok l n a
+pub found_first : {A : Type 0} (ok : A → Bool) (l : List A) (n : ℕ) → place ok l ≡ Some n → (a : A) × Hit ok l n a
 found_first ok l n e = go (sought ok l)
   where
     go : Sought ok l → (a : _) × Hit ok l n a
@@ -46,26 +46,26 @@ found_first ok l n e = go (sought ok l)
     go (miss p u) = absurd (none≢some (sym p ∙ e))
 
 -- none passes
-pub none_found : {A : Type 0} (ok : A → Bool) (l : List A) → ((i : ℕ) (a : A) → at l i ≡ some a → ok a ≡ false) → (find ok l ≡ none) × (drop_first ok l ≡ l)
+pub none_found : {A : Type 0} (ok : A → Bool) (l : List A) → ((i : ℕ) (a : A) → at l i ≡ Some a → ok a ≡ false) → (find ok l ≡ None) × (drop_first ok l ≡ l)
 none_found ok [] h = (refl, refl)
 none_found ok (a ∷ l) h =
     let r = none_found ok l (λ i. h (suc i)) in
     (rw (h 0 a refl) r.0, rw (h 0 a refl) (ap (λ t. a ∷ t) r.1))
 
-pub found_none : {A : Type 0} (ok : A → Bool) (l : List A) → place ok l ≡ none → (find ok l ≡ none) × (drop_first ok l ≡ l)
+pub found_none : {A : Type 0} (ok : A → Bool) (l : List A) → place ok l ≡ None → (find ok l ≡ None) × (drop_first ok l ≡ l)
 found_none ok l e = go (sought ok l)
   where
-    go : Sought ok l → (find ok l ≡ none) × (drop_first ok l ≡ l)
+    go : Sought ok l → (find ok l ≡ None) × (drop_first ok l ≡ l)
     go (hit n a h) = absurd (none≢some (sym e ∙ h.found))
     go (miss p u) = none_found ok l u
 
-pub at_take : {A : Type 0} (l : List A) (m n : ℕ) (a : A) → at (take m l) n ≡ some a → n < m
+pub at_take : {A : Type 0} (l : List A) (m n : ℕ) (a : A) → at (take m l) n ≡ Some a → n < m
 at_take l zero n a e = absurd (none≢some e)
 at_take [] (suc m) n a e = absurd (none≢some e)
 at_take (b ∷ l) (suc m) zero a e = omega arith
 at_take (b ∷ l) (suc m) (suc n) a e = let h = at_take l m n a e in omega arith
 
-pub at_get : {A : Type 0} (z : A) (l : List A) (n : ℕ) (a : A) → at l n ≡ some a → (get_or l n z ≡ a) × (n < length l)
+pub at_get : {A : Type 0} (z : A) (l : List A) (n : ℕ) (a : A) → at l n ≡ Some a → (get_or l n z ≡ a) × (n < length l)
 at_get z [] n a e = absurd (none≢some e)
 at_get z (b ∷ l) zero a e = let s : b ≡ a = cc in (s, omega arith)
 at_get z (b ∷ l) (suc n) a e = let r = at_get z l n a e in (r.0, (let h = r.1 in omega arith))
@@ -90,14 +90,14 @@ module _ {A : Type 0} (P : A → Type 0) where
   each_set (b ∷ l) (suc i) a u v = (u.0, each_set l i a u.1 v)
 
   -- what is found has the property, and passes
-  pub each_find : (ok : A → Bool) (l : List A) (a : A) → find ok l ≡ some a → Each P l → P a × (ok a ≡ true)
+  pub each_find : (ok : A → Bool) (l : List A) (a : A) → find ok l ≡ Some a → Each P l → P a × (ok a ≡ true)
   each_find ok [] a e u = absurd (none≢some e)
-  each_find ok (b ∷ l) a e u = (elim (ok b) as (λ t. ok b ≡ t → (when t then some b else find ok l) ≡ some a → P a × (ok a ≡ true)) [
+  each_find ok (b ∷ l) a e u = (elim (ok b) as (λ t. ok b ≡ t → (when t then Some b else find ok l) ≡ Some a → P a × (ok a ≡ true)) [
     | true ↦ λ h e. (let s : b ≡ a = cc in (subst P s u.0, subst (λ x. ok x ≡ true) s h))
     | false ↦ λ h e. each_find ok l a e u.1
   ]) refl e
 
-  pub each_at : (l : List A) (i : ℕ) (a : A) → at l i ≡ some a → Each P l → P a
+  pub each_at : (l : List A) (i : ℕ) (a : A) → at l i ≡ Some a → Each P l → P a
   each_at [] i a e u = absurd (none≢some e)
   each_at (b ∷ l) zero a e u = let s : b ≡ a = cc in subst P s u.0
   each_at (b ∷ l) (suc i) a e u = each_at l i a e u.1
@@ -129,11 +129,11 @@ each_both P Q R h [] u v = tt
 each_both P Q R h (a ∷ l) u v = (h a u.0 v.0, each_both P Q R h l u.1 v.1)
 
 -- what is found passes
-pub found : {A : Type 0} (ok : A → Bool) (l : List A) (a : A) → find ok l ≡ some a → ok a ≡ true
+pub found : {A : Type 0} (ok : A → Bool) (l : List A) (a : A) → find ok l ≡ Some a → ok a ≡ true
 found ok l a e = (each_find (λ a. Unit {0}) ok l a e (each_all (λ a. Unit {0}) (λ a. tt) l)).1
 
 -- a table with no number: each test fails
-pub first_none : {A : Type 0} (n : A) (t : Bool) (l : List (A × Bool)) → first_of ((n, t) ∷ l) ≡ none → (t ≡ false) × (first_of l ≡ none)
+pub first_none : {A : Type 0} (n : A) (t : Bool) (l : List (A × Bool)) → first_of ((n, t) ∷ l) ≡ None → (t ≡ false) × (first_of l ≡ None)
 first_none n true l e = absurd (none≢some (sym e))
 first_none n false l e = (refl, e)
 
@@ -167,7 +167,7 @@ module _ {A B : Type 0} (f : A → B) where
   map_cut (a ∷ l) (suc n) = ap (λ r. f a ∷ r) (map_cut l n)
 
   -- an element is exchanged for one that f does not tell from it
-  pub map_set_same : (l : List A) (i : ℕ) (a b : A) → at l i ≡ some b → f a ≡ f b → map f (set l i a) ≡ map f l
+  pub map_set_same : (l : List A) (i : ℕ) (a b : A) → at l i ≡ Some b → f a ≡ f b → map f (set l i a) ≡ map f l
   map_set_same [] i a b e h = refl
   map_set_same (c ∷ l) zero a b e h = let s : c ≡ b = cc in ap (λ x. x ∷ map f l) (h ∙ ap f (sym s))
   map_set_same (c ∷ l) (suc i) a b e h = ap (λ r. f c ∷ r) (map_set_same l i a b e h)

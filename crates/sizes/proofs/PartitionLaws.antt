@@ -1,6 +1,6 @@
 -- What is promised of a partition (specs/PartitionPromises) holds.
 use Rattle.std.proofs.Common.{◌≡◌, ℕ, zero, suc, ◌+◌, ◌-◌, ◌*◌, ◌/◌, ◌%◌, ◌<◌, ◌≤◌, ◌⊎◌, ◌↔◌, sym, refl, ap, ◌∙◌, inl, inr, ⊎_elim, mul-le-mul_right, mod-lt, mul_comm, add-mul, one-mul, div-add-mod', le-div_iff_mul-le, zero-mul, mul-one, mul-add, le-mul_of_pos_right, add-one, arith, ne_eqb}
-use mathlib.Core.Option.{none, some}
+use Rattle.std.specs.Prelude.{None, Some}
 use Rattle.sizes.specs.Words.{ceil, sum_below}
 use Rattle.sizes.specs.Limits.{wide}
 use Rattle.sizes.specs.Partition.{sbn, symbols_of, split, no_blocks, partition_of, symbols_in, first_symbol, block_start, block_size, block_length}
@@ -290,13 +290,13 @@ module _ (b l e : ℕ) where
       start_fits : (k : ℕ) → k ≤ p.blocks → start k < wide
       start_fits k h = omega (arith, start_rises k p.blocks h, start_end, close)
 
-      inside : (k : ℕ) → k < p.blocks → block_length p l e (sbn k) ≡ some (bytes k)
+      inside : (k : ℕ) → k < p.blocks → block_length p l e (sbn k) ≡ Some (bytes k)
       unfolding block_bytes
       inside k h =
           all_fit p l e (sbn k) large_fits small_fits (start_fits k (omega arith))
           ∙ reach_some (start k) (size k) l (start_inside k h) (omega (arith, whole_symbol (omega arith) k))
 
-      outside : (k : ℕ) → p.blocks ≤ k → block_length p l e (sbn k) ≡ none
+      outside : (k : ℕ) → p.blocks ≤ k → block_length p l e (sbn k) ≡ None
       outside k h =
           ⊎_elim
           (λ g. all_fit p l e (sbn k) large_fits small_fits g ∙ reach_later (start k) (size k) l (omega (arith, start_rises p.blocks k h, start_end, holds)))

@@ -1,7 +1,7 @@
 -- Laws of tables and counts, for any element type: which places of a table a list has, and how often.
 use Rattle.std.proofs.Common.{◌≡◌, ℕ, zero, suc, ◌+◌, ◌<◌, ◌≤◌, Bool, true, false, ◌&&◌, ◌||◌, eqb, List, [], ◌∷◌, map, length, get_or, set, sym, refl, ap, ◌∙◌, subst, arith, get_or-set_other, get_or-set_same, eq-eqb, ne_eqb, eqb-true}
 use mathlib.Core.Bool.{false≢true}
-use mathlib.Core.Option.{some}
+use Rattle.std.specs.Prelude.{Some}
 use borrow.Author.Tests.{eqb-false}
 use Rattle.sizes.specs.Words.{when◌then◌else◌, over, given, keep, any, find, drop_first, at, cut, has, one_if, times, tally, Counts}
 use Rattle.sizes.proofs.Tests.{Tested, pass, fail, tested, none≢some}
@@ -26,17 +26,17 @@ pub map_in : {B : Type 0} (f g : ℕ → B) (l : List ℕ) → ((k : ℕ) → 1 
 map_in f g [] h = refl
 map_in f g (k ∷ l) h = λ i. h k (let e = ap one_if (eq-eqb k k refl) in omega arith) i ∷ map_in f g l (λ j u. h j (omega arith)) i
 
-pub map_at : {A B : Type 0} (f g : A → B) (l : List A) → ((i : ℕ) (a : A) → at l i ≡ some a → f a ≡ g a) → map f l ≡ map g l
+pub map_at : {A B : Type 0} (f g : A → B) (l : List A) → ((i : ℕ) (a : A) → at l i ≡ Some a → f a ≡ g a) → map f l ≡ map g l
 map_at f g [] h = refl
 map_at f g (a ∷ l) h = λ i. h 0 a refl i ∷ map_at f g l (λ n b e. h (suc n) b e) i
 
-pub times_at : (l : List ℕ) (n k : ℕ) → at l n ≡ some k → 1 ≤ times k l
+pub times_at : (l : List ℕ) (n k : ℕ) → at l n ≡ Some k → 1 ≤ times k l
 times_at [] n k e = absurd (none≢some e)
 times_at (j ∷ l) zero k e = let s : j ≡ k = cc in let z = ap one_if (eq-eqb j k s) in omega arith
 times_at (j ∷ l) (suc n) k e = let h = times_at l n k e in omega arith
 
 -- one place left out
-pub times_cut : (j : ℕ) (l : List ℕ) (n k : ℕ) → at l n ≡ some k → times j (cut l n) + one_if (eqb k j) ≡ times j l
+pub times_cut : (j : ℕ) (l : List ℕ) (n k : ℕ) → at l n ≡ Some k → times j (cut l n) + one_if (eqb k j) ≡ times j l
 times_cut j [] n k e = absurd (none≢some e)
 times_cut j (a ∷ l) zero k e = let s : a ≡ k = cc in let z = ap (λ u. one_if (eqb u j)) s in omega arith
 times_cut j (a ∷ l) (suc n) k e = let h = times_cut j l n k e in omega arith
@@ -46,16 +46,16 @@ pub keep_all : {B : Type 0} (ok : B → Bool) (f : ℕ → B) (l : List ℕ) →
 keep_all ok f [] h = refl
 keep_all ok f (a ∷ l) h = rw (h a (let r = ap one_if (eq-eqb a a refl) in omega arith)) (ap (λ r. f a ∷ r) (keep_all ok f l (λ j u. h j (omega arith))))
 
-pub none_get : {A : Type 0} (z : A) (ok : A → Bool) (l : List A) → ((i : ℕ) (a : A) → at l i ≡ some a → ok a ≡ false) → ok z ≡ false → (k : ℕ) → ok (get_or l k z) ≡ false
+pub none_get : {A : Type 0} (z : A) (ok : A → Bool) (l : List A) → ((i : ℕ) (a : A) → at l i ≡ Some a → ok a ≡ false) → ok z ≡ false → (k : ℕ) → ok (get_or l k z) ≡ false
 none_get z ok [] h e k = e
 none_get z ok (a ∷ l) h e zero = h 0 a refl
 none_get z ok (a ∷ l) h e (suc k) = none_get z ok l (λ i. h (suc i)) e k
 
 -- lists that have each number as often are as long, and have the same numbers
-at_times : (k : ℕ) (l : List ℕ) → 1 ≤ times k l → (R : Type 0) → ((n : ℕ) → at l n ≡ some k → suc (length (cut l n)) ≡ length l → R) → R
+at_times : (k : ℕ) (l : List ℕ) → 1 ≤ times k l → (R : Type 0) → ((n : ℕ) → at l n ≡ Some k → suc (length (cut l n)) ≡ length l → R) → R
 at_times k [] h R f = absurd (omega arith)
 at_times k (a ∷ l) h R f = (elim (eqb a k) as (λ b. eqb a k ≡ b → 1 ≤ one_if b + times k l → R) [
-  | true ↦ λ e h. f 0 (ap some (eqb-true a k e)) refl
+  | true ↦ λ e h. f 0 (ap Some (eqb-true a k e)) refl
   | false ↦ λ e h. at_times k l (omega arith) R (λ n p q. f (suc n) p (ap suc q))
 ]) refl h
 
@@ -76,7 +76,7 @@ same_has m a b h = go (tested (has m b)) (tested (has m a))
     go (fail p) (pass q) = let c = has_times m a q in let d = has_none m b p in absurd (omega arith)
 
 -- all but one are kept
-pub keep_cut : {B : Type 0} (ok : B → Bool) (f : ℕ → B) (l : List ℕ) (n k : ℕ) → at l n ≡ some k → ok (f k) ≡ false → ((j : ℕ) → 1 ≤ times j (cut l n) → ok (f j) ≡ true)
+pub keep_cut : {B : Type 0} (ok : B → Bool) (f : ℕ → B) (l : List ℕ) (n k : ℕ) → at l n ≡ Some k → ok (f k) ≡ false → ((j : ℕ) → 1 ≤ times j (cut l n) → ok (f j) ≡ true)
     → keep ok (map f l) ≡ map f (cut l n)
 keep_cut ok f [] n k e o h = absurd (none≢some e)
 keep_cut ok f (a ∷ l) zero k e o h = let s : a ≡ k = cc in rw (subst (λ x. ok (f x) ≡ false) (sym s) o) (keep_all ok f l h)
@@ -85,7 +85,7 @@ keep_cut ok f (a ∷ l) (suc n) k e o h = rw (h a (let r = ap one_if (eq-eqb a a
 -- a search through a map
 pub find_map : {A B : Type 0} (ok : B → Bool) (f : A → B) (l : List A) → find ok (map f l) ≡ over f (find (λ a. ok (f a)) l)
 find_map ok f [] = refl
-find_map ok f (a ∷ l) = elim (ok (f a)) as (λ t. (when t then some (f a) else find ok (map f l)) ≡ over f (when t then some a else find (λ a. ok (f a)) l))
+find_map ok f (a ∷ l) = elim (ok (f a)) as (λ t. (when t then Some (f a) else find ok (map f l)) ≡ over f (when t then Some a else find (λ a. ok (f a)) l))
     [ true ↦ refl | false ↦ find_map ok f l ]
 
 pub drop_map : {A B : Type 0} (ok : B → Bool) (f : A → B) (l : List A) → drop_first ok (map f l) ≡ map f (drop_first (λ a. ok (f a)) l)
@@ -96,7 +96,7 @@ drop_map ok f (a ∷ l) = elim (ok (f a)) as (λ t. (when t then map f l else f 
 -- is one found
 pub find_any : {A : Type 0} (ok : A → Bool) (l : List A) → given (find ok l) ≡ any ok l
 find_any ok [] = refl
-find_any ok (a ∷ l) = elim (ok a) as (λ t. given (when t then some a else find ok l) ≡ (t || any ok l)) [ true ↦ refl | false ↦ find_any ok l ]
+find_any ok (a ∷ l) = elim (ok a) as (λ t. given (when t then Some a else find ok l) ≡ (t || any ok l)) [ true ↦ refl | false ↦ find_any ok l ]
 
 pub any_in : {B : Type 0} (ok : B → Bool) (f : ℕ → B) (l : List ℕ) (k : ℕ) → 1 ≤ times k l → ok (f k) ≡ true → any ok (map f l) ≡ true
 any_in ok f [] k h e = absurd (omega arith)
@@ -119,7 +119,7 @@ module _ {A : Type 0} (p : A → Bool) where
   tally_le [] = omega arith
   tally_le (a ∷ t) = let b = tally_le t in elim (p a) as (λ x. one_if x + tally p t ≤ suc (length t)) [ true ↦ omega arith | false ↦ omega arith ]
 
-  pub tally_all : (t : List A) → ((i : ℕ) (a : A) → at t i ≡ some a → p a ≡ true) → tally p t ≡ length t
+  pub tally_all : (t : List A) → ((i : ℕ) (a : A) → at t i ≡ Some a → p a ≡ true) → tally p t ≡ length t
   tally_all [] h = refl
   tally_all (a ∷ t) h = let b = tally_all t (λ i. h (suc i)) in let c = ap one_if (h 0 a refl) in omega arith
 

@@ -1,7 +1,7 @@
 -- Facts on tests.
 use Rattle.std.proofs.Common.{◌≡◌, ℕ, Bool, true, false, ◌&&◌, ◌||◌, refl, true≢false, arith}
 use mathlib.Core.Bool.{false≢true}
-use mathlib.Core.Option.{Option, none, some}
+use Rattle.std.specs.Prelude.{Option, None, Some, Ok, Err, ok_or}
 use Rattle.sizes.specs.Words.{when◌then◌else◌, maybe}
 
 -- a test is true or false, with the equation
@@ -29,14 +29,23 @@ pub or_right : (a b : Bool) → (a || b) ≡ false → b ≡ false
 or_right true b e = absurd (true≢false e)
 or_right false b e = e
 
-pub none≢some : {A : Type 0} {a : A} → none ≡ some a → ⊥
+pub none≢some : {A : Type 0} {a : A} → None ≡ Some a → ⊥
 none≢some e = let z : ◌≡◌ {A = ℕ} 0 1 = cc in omega arith
+
+-- what stood behind an option that was told as a result
+pub ok_told : {A E : Type 0} (o : Option A) (e : E) (a : A) → Ok a ≡ ok_or o e → o ≡ Some a
+ok_told None e a q = cc
+ok_told (Some b) e a q = cc
+
+pub err_told : {A E : Type 0} (o : Option A) (e w : E) → Err w ≡ ok_or o e → (o ≡ None) × (w ≡ e)
+err_told None e w q = (refl, (cc))
+err_told (Some b) e w q = ((cc), (cc))
 
 -- what holds in both cases, of a choice and of what may be there
 pub if_on : {A : Type 0} (P : A → Type 0) (b : Bool) {x y : A} → (b ≡ true → P x) → (b ≡ false → P y) → P (when b then x else y)
 if_on P true t f = t refl
 if_on P false t f = f refl
 
-pub maybe_on : {A B : Type 0} (P : B → Type 0) {d : B} {g : A → B} (o : Option A) → (o ≡ none → P d) → ((a : A) → o ≡ some a → P (g a)) → P (maybe d g o)
-maybe_on P none n s = n refl
-maybe_on P (some a) n s = s a refl
+pub maybe_on : {A B : Type 0} (P : B → Type 0) {d : B} {g : A → B} (o : Option A) → (o ≡ None → P d) → ((a : A) → o ≡ Some a → P (g a)) → P (maybe d g o)
+maybe_on P None n s = n refl
+maybe_on P (Some a) n s = s a refl

@@ -1,6 +1,6 @@
 -- The allocator of object numbers: 64 entries, each a number that is held by a loose reservation or by an object.
-use Rattle.std.specs.Prelude.{◌≡◌, ℕ, ◌+◌, ◌-◌, ◌≤◌, Bool, true, false, not, ◌&&◌, List, [], ◌∷◌, ◌++◌, map, length, take, replicate, ◌==◌, nat_lt, slice_index_or, slice_set}
-use Rattle.std.proofs.Math.Option.{Option, none, some}
+use Rattle.std.specs.Prelude.{◌≡◌, ℕ, ◌+◌, ◌-◌, ◌≤◌, Bool, true, false, not, ◌&&◌, eqb, List, [], ◌∷◌, ◌++◌, map, length, take, replicate, ◌==◌, nat_lt, slice_index_or, slice_set}
+use Rattle.std.specs.Prelude.{Option, None, Some, Result, Ok, Err, ok_or}
 use Rattle.sizes.specs.Words.{when◌then◌else◌, maybe, has, place, shut, collect, times, Each}
 use Rattle.sizes.specs.Limits.{toi_entries}
 use Rattle.sizes.specs.declared.refusal.Refusal.{Refusal}
@@ -10,12 +10,6 @@ use Rattle.sizes.specs.declared.toiallocator.ToiMaxLength.{ToiMaxLength}
 use Rattle.sizes.specs.declared.toiallocator.ToiMaxLength.TheVariants.{ToiMax16, ToiMax32, ToiMax48, ToiMax64}
 use Rattle.sizes.specs.declared.toiallocator.Entry.{Entry}
 use Rattle.sizes.specs.declared.toiallocator.ToiAllocator.{ToiAllocator}
-use Rattle.sizes.specs.declared.toiallocator.Given.{Given}
-use Rattle.sizes.specs.declared.toiallocator.Given.TheVariants.{Number, Full}
-use Rattle.sizes.specs.declared.toiallocator.Known.{Known}
-use Rattle.sizes.specs.declared.toiallocator.Known.TheVariants.{Done, Unknown}
-use Rattle.sizes.specs.declared.toiallocator.Allocated.{Allocated}
-use Rattle.sizes.specs.declared.toiallocator.Changed.{Changed}
 
 -- how many bits a number has
 abbrev pub bits : ToiMaxLength → ℕ
@@ -28,19 +22,42 @@ bits ToiMax64 = 64
 abbrev pub Width : ℕ → Type 0
 Width n = (w : ToiMaxLength) × (n ≡ bits w)
 
+-- a width by its number
+unfoldable pub width_said : ℕ → Option ToiMaxLength
+width_said n =
+    when eqb n 16 then Some ToiMax16
+    else when eqb n 32 then Some ToiMax32
+    else when eqb n 48 then Some ToiMax48
+    else when eqb n 64 then Some ToiMax64
+    else None
+
+-- what a number that is named as a width becomes: the width with so many bits; refusal 1 where there is none
+abbrev pub width_told : ℕ → Result ToiMaxLength Refusal
+width_told n = ok_or (width_said n) Because.SetUp
+
 -- what a call says: a number, that it was done, or why it is refused
 pub data Said : Type 0 where
   toi : ℕ → Said
   done : Said
   refused : Refusal → Said
 
-abbrev pub given_said : Given → Said
-given_said (Number n) = Said.toi n
-given_said Full = Said.refused Because.Full
+abbrev pub given_said : Result ℕ Refusal → Said
+given_said (Ok n) = Said.toi n
+given_said (Err why) = Said.refused why
 
-abbrev pub known_said : Known → Said
-known_said Done = Said.done
-known_said Unknown = Said.refused Because.NotLoose
+abbrev pub known_said : Result (Unit {0}) Refusal → Said
+known_said (Ok u) = Said.done
+known_said (Err why) = Said.refused why
+
+-- a number, or why none is given; and the allocator after the call
+pub record Allocated : Type 0 where
+  pub answer : Result ℕ Refusal
+  pub allocator : ToiAllocator
+
+-- done, or why not; and the allocator after the call
+pub record Changed : Type 0 where
+  pub answer : Result (Unit {0}) Refusal
+  pub allocator : ToiAllocator
 
 -- an entry that is not in use
 abbrev pub no_entry : Entry
@@ -55,10 +72,10 @@ abbrev pub held : ToiAllocator → List ℕ
 held a = map (λ (e : Entry). e.toi) (noted a)
 
 abbrev pub loose_in : Entry → Option ℕ
-loose_in e = when e.loose then some e.toi else none
+loose_in e = when e.loose then Some e.toi else None
 
 abbrev pub bound_in : Entry → Option ℕ
-bound_in e = when e.loose then none else some e.toi
+bound_in e = when e.loose then None else Some e.toi
 
 -- the numbers of loose reservations, and those of objects
 abbrev pub loose : ToiAllocator → List ℕ
@@ -90,8 +107,8 @@ moved_on a = record { entries = a.entries; entered = a.entered; next = next_toi 
 -- the answer is the stored next number, and the next is the first after it that is not held; refused where all entries are in use
 unfoldable pub allocated_of : Bool → ToiAllocator → Allocated
 allocated_of flag a =
-    when nat_lt a.entered toi_entries then record { answer = Number a.next; allocator = moved_on (noting flag a) }
-    else record { answer = Full; allocator = a }
+    when nat_lt a.entered toi_entries then record { answer = Ok a.next; allocator = moved_on (noting flag a) }
+    else record { answer = Err Because.Full; allocator = a }
 
 -- the entry at place i is an object's from now on
 unfoldable pub bound_at : ToiAllocator → ℕ → ℕ → ToiAllocator
@@ -102,10 +119,10 @@ unfoldable pub entry_gone : ToiAllocator → ℕ → ToiAllocator
 entry_gone a i = record { entries = shut no_entry a.entries i; entered = a.entered - 1; next = a.next; width = a.width }
 
 abbrev pub unchanged : ToiAllocator → Changed
-unchanged a = record { answer = Unknown; allocator = a }
+unchanged a = record { answer = Err Because.NotLoose; allocator = a }
 
 abbrev pub changed : ToiAllocator → Changed
-changed a = record { answer = Done; allocator = a }
+changed a = record { answer = Ok tt; allocator = a }
 
 -- a loose reservation becomes an object's number
 unfoldable pub claimed_of : ℕ → ToiAllocator → Changed
@@ -118,7 +135,7 @@ dropped_of flag t a = maybe (unchanged a) (λ i. changed (entry_gone a i)) (plac
 -- what an accepted call of allocate promises: the number is one that an object may have, and nobody held it;
 -- it is held from now on, and the next is the first number after it that is not
 pub record Fresh (flag : Bool) (a : ToiAllocator) (r : Allocated) : Type 0 where
-  pub given : r.answer ≡ Number a.next
+  pub given : r.answer ≡ Ok a.next
   pub ranged : Toi a.width a.next
   pub unheld : has a.next (held a) ≡ false
   pub noted_last : noted r.allocator ≡ noted a ++ (record { toi = a.next; loose = flag } ∷ [])

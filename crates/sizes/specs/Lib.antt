@@ -1,8 +1,7 @@
--- Read in this order: Words, Limits, Refusals, Place, Partition, PartitionPromises, Toi, Allocator.
+-- Read in this order: Words, Limits, Refusals, Partition, PartitionPromises, Toi, Allocator.
 pub mod Words
 pub mod Limits
 pub mod Refusals
-pub mod Place
 pub mod Partition
 pub mod PartitionPromises
 pub mod Toi

@@ -1,16 +1,12 @@
 -- Partition of an object into blocks (RFC 5052, section 9.1), and the length of one block in bytes.
 use Rattle.std.specs.Prelude.{ℕ, ◌+◌, ◌-◌, ◌*◌, ◌/◌, min, Bool, ◌&&◌, ◌||◌, ◌==◌, nat_lt}
-use Rattle.std.proofs.Math.Option.{Option, none, some}
+use Rattle.std.specs.Prelude.{Option, None, Some}
 use Rattle.sizes.specs.Words.{when◌then◌else◌, ceil}
 use Rattle.sizes.specs.Limits.{wide}
 use Rattle.sizes.specs.declared.numbers.Sbn.{Sbn}
 use Rattle.sizes.specs.declared.numbers.Esi.{Esi}
 use Rattle.sizes.specs.declared.partition.Partition.{Partition}
 use Rattle.sizes.specs.declared.partition.Sizes.{Sizes}
-use Rattle.sizes.specs.declared.partition.BlockLength.{BlockLength}
-use Rattle.sizes.specs.declared.partition.BlockLength.TheVariants.{Bytes, Nothing}
-use Rattle.sizes.specs.declared.partition.Checked.{Checked}
-use Rattle.sizes.specs.declared.partition.Checked.TheVariants.{Fits, Past}
 
 -- the block with this number
 abbrev pub sbn : ℕ → Sbn
@@ -62,25 +58,20 @@ unfoldable pub fits : ℕ → Bool
 fits n = nat_lt n wide
 
 -- a number, where it fits 64 bits
-unfoldable pub checked : ℕ → Checked
-checked n = when fits n then Fits n else Past
+unfoldable pub checked : ℕ → Option ℕ
+checked n = when fits n then Some n else None
 
 -- of a block of this size that begins at offset, the bytes that l bytes reach, or none
 unfoldable pub reach : ℕ → ℕ → ℕ → Option ℕ
-reach offset size l = when nat_lt offset l && nat_lt 0 size then some (min size (l - offset)) else none
+reach offset size l = when nat_lt offset l && nat_lt 0 size then Some (min size (l - offset)) else None
 
 -- a block's length: none where a number passes 64 bits (both block sizes are always formed), else what l bytes reach of it
 unfoldable pub block_length : Partition → ℕ → ℕ → Sbn → Option ℕ
 block_length p l e k =
     when fits (p.large * e) && fits (p.small * e) && fits (block_start p e k)
     then reach (block_start p e k) (block_size p e k) l
-    else none
+    else None
 
 -- the sizes that block_length is handed; it does not ask how many blocks there are
 abbrev pub sizes_given : ℕ → ℕ → ℕ → Partition
 sizes_given large small larges = record { large = large; small = small; nb_a_large = larges; blocks = 0 }
-
--- what the answer of block_length says
-abbrev pub length_said : BlockLength → Option ℕ
-length_said (Bytes n) = some n
-length_said Nothing = none

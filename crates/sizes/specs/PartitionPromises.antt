@@ -1,6 +1,6 @@
 -- What is promised of a partition: statements only, proved in proofs/PartitionLaws.
 use Rattle.std.specs.Prelude.{◌≡◌, ℕ, ◌+◌, ◌-◌, ◌*◌, ◌<◌, ◌≤◌, min}
-use Rattle.std.proofs.Math.Option.{none, some}
+use Rattle.std.specs.Prelude.{None, Some}
 use Rattle.sizes.specs.Words.{sum_below}
 use Rattle.sizes.specs.Limits.{largest_symbol, largest_block, most_blocks, longest_store, wide}
 use Rattle.sizes.specs.Partition.{sbn, symbols_of, partition_of, symbols_in, first_symbol, block_start, block_size, block_length}
@@ -64,5 +64,5 @@ pub record Reached (l e : ℕ) (p : Partition) : Type 0 where
   pub large_fits : p.large * e < wide
   pub small_fits : p.small * e < wide
   pub start_fits : (k : ℕ) → k ≤ p.blocks → block_start p e (sbn k) < wide
-  pub inside : (k : ℕ) → k < p.blocks → block_length p l e (sbn k) ≡ some (block_bytes p l e (sbn k))
-  pub outside : (k : ℕ) → p.blocks ≤ k → block_length p l e (sbn k) ≡ none
+  pub inside : (k : ℕ) → k < p.blocks → block_length p l e (sbn k) ≡ Some (block_bytes p l e (sbn k))
+  pub outside : (k : ℕ) → p.blocks ≤ k → block_length p l e (sbn k) ≡ None

@@ -1,4 +1,4 @@
--- What the desk says no to: document 01's table. The reasons are the code's own (src/refusal.rt), so that the definition and every answer of the code have one type for them.
+-- What the desk says no to: the table of refusals. The reasons are the code's own (src/refusal.rt), so that the definition and every answer of the code have one type for them.
 use Rattle.std.specs.Prelude.{ℕ}
 use Rattle.sizes.specs.declared.refusal.Refusal.{Refusal}
 use Rattle.sizes.specs.declared.refusal.Refusal.TheVariants as Because

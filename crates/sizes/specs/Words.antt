@@ -1,6 +1,6 @@
 -- Words that the definitions are written in: a choice by a test, a rounded quotient, and some functions on lists.
 use Rattle.std.specs.Prelude.{◌≡◌, ℕ, zero, suc, ◌+◌, ◌-◌, ◌/◌, Bool, true, false, ◌&&◌, ◌||◌, eqb, List, [], ◌∷◌, ◌++◌, get_or, ◌==◌, nat_le}
-use Rattle.std.proofs.Math.Option.{Option, none, some}
+use Rattle.std.specs.Prelude.{Option, None, Some}
 
 infix 1 when◌then◌else◌
 -- a choice by a test
@@ -14,18 +14,18 @@ ceil a b = (a + (b - 1)) / b
 
 -- what is there, put through f; or d
 abbrev pub maybe : {A B : Type 0} → B → (A → B) → Option A → B
-maybe d f none = d
-maybe d f (some a) = f a
+maybe d f None = d
+maybe d f (Some a) = f a
 
 -- f of what may be there
 abbrev pub over : {A B : Type 0} → (A → B) → Option A → Option B
-over f none = none
-over f (some a) = some (f a)
+over f None = None
+over f (Some a) = Some (f a)
 
 -- is something there
 abbrev pub given : {A : Type 0} → Option A → Bool
-given none = false
-given (some a) = true
+given None = false
+given (Some a) = true
 
 -- the list of what each element may give
 abbrev pub collect : {A B : Type 0} → (A → Option B) → List A → List B
@@ -50,8 +50,8 @@ module _ {A : Type 0} where
 
   -- the first that passes
   abbrev pub find : (A → Bool) → List A → Option A
-  find ok [] = none
-  find ok (a ∷ l) = when ok a then some a else find ok l
+  find ok [] = None
+  find ok (a ∷ l) = when ok a then Some a else find ok l
 
   -- the list without the first that passes
   abbrev pub drop_first : (A → Bool) → List A → List A
@@ -60,8 +60,8 @@ module _ {A : Type 0} where
 
   -- the element at place i
   abbrev pub at : List A → ℕ → Option A
-  at [] i = none
-  at (a ∷ l) zero = some a
+  at [] i = None
+  at (a ∷ l) zero = Some a
   at (a ∷ l) (suc i) = at l i
 
   -- the list with place i left out
@@ -72,8 +72,8 @@ module _ {A : Type 0} where
 
   -- where the first that passes stands
   abbrev pub place : (A → Bool) → List A → Option ℕ
-  place ok [] = none
-  place ok (a ∷ l) = when ok a then some 0 else over suc (place ok l)
+  place ok [] = None
+  place ok (a ∷ l) = when ok a then Some 0 else over suc (place ok l)
 
   -- an array with place i left out: the later ones move up, and z comes in at the end
   abbrev pub shut : A → List A → ℕ → List A
@@ -90,8 +90,8 @@ within low high n = nat_le low n && nat_le n high
 
 -- the first entry of a table whose test holds
 abbrev pub first_of : {A : Type 0} → List (A × Bool) → Option A
-first_of [] = none
-first_of (r ∷ l) = when r.1 then some r.0 else first_of l
+first_of [] = None
+first_of (r ∷ l) = when r.1 then Some r.0 else first_of l
 
 -- is the number in the list
 abbrev pub has : ℕ → List ℕ → Bool

@@ -1,7 +1,7 @@
 // How an object is cut into blocks, and how long a block is (src/common/partition.rs).
-ghost use Rattle.std.specs.Prelude.{◌≡◌, ◌+◌, ◌*◌, ◌<◌};
+ghost use Rattle.std.specs.Prelude.{◌≡◌};
 ghost use Rattle.sizes.specs.Words.{ceil};
-ghost use Rattle.sizes.specs.Partition.{no_blocks, partition_of, block_length, sizes_given, length_said, checked, reach};
+ghost use Rattle.sizes.specs.Partition.{no_blocks, partition_of, block_length, reach};
 
 use crate::numbers::Sbn;
 
@@ -21,20 +21,6 @@ pub struct Partition {
     pub small: u64,
     pub nb_a_large: u64,
     pub blocks: u64,
-}
-
-// A block's length, or that there is none.
-#[derive(Clone, Copy)]
-pub enum BlockLength {
-    Bytes(u64),
-    Nothing,
-}
-
-// A number of 64 bits, or that it would pass them.
-#[derive(Clone, Copy)]
-enum Checked {
-    Fits(u64),
-    Past,
 }
 
 // a / b, rounded up; 0 where b is 0.
@@ -88,74 +74,29 @@ pub fn block_partitioning(b: u64, l: u64, e: u64) -> Partition
     }
 }
 
-// a * b, where it fits.
-fn checked_mul(a: u64, b: u64) -> Checked
-    ensures { result ≡ checked (a * b) }
-{
-    if a == 0 {
-        return Checked::Fits(0);
-    }
-    if b <= u64::MAX / a {
-        return Checked::Fits(a * b);
-    }
-    Checked::Past
-}
-
-// a + b, where it fits.
-fn checked_add(a: u64, b: u64) -> Checked
-    ensures { result ≡ checked (a + b) }
-{
-    if b <= u64::MAX - a {
-        return Checked::Fits(a + b);
-    }
-    Checked::Past
-}
-
 // How much of a block of `size` bytes that begins at `offset` lies below l.
-fn reached(offset: u64, size: u64, l: u64) -> BlockLength
-    ensures { length_said result ≡ reach offset size l }
+fn reached(offset: u64, size: u64, l: u64) -> Option<u64>
+    ensures { result ≡ reach offset size l }
 {
     if offset >= l || size == 0 {
-        return BlockLength::Nothing;
+        return None;
     }
-    if size <= l - offset {
-        return BlockLength::Bytes(size);
-    }
-    BlockLength::Bytes(l - offset)
+    Some(size.min(l - offset))
 }
 
-// A block's length in bytes. Nothing where the block begins at l or later, is empty, or a number passes 64 bits.
-pub fn block_length(
-    large: u64,
-    small: u64,
-    nb_a_large: u64,
-    l: u64,
-    e: u64,
-    sbn: Sbn,
-) -> BlockLength
-    ensures { length_said result ≡ block_length (sizes_given large small nb_a_large) l e sbn }
+// A block's length in bytes. None where the block begins at l or later, is empty, or a number passes 64 bits.
+pub fn block_length(p: Partition, l: u64, e: u64, sbn: Sbn) -> Option<u64>
+    ensures { result ≡ block_length p l e sbn }
 {
-    let Checked::Fits(large_size) = checked_mul(large, e) else {
-        return BlockLength::Nothing;
-    };
-    let Checked::Fits(small_size) = checked_mul(small, e) else {
-        return BlockLength::Nothing;
-    };
+    let large_size = p.large.checked_mul(e)?;
+    let small_size = p.small.checked_mul(e)?;
     let k = sbn.0 as u64;
-    if k < nb_a_large {
-        let Checked::Fits(offset) = checked_mul(k, large_size) else {
-            return BlockLength::Nothing;
-        };
+    if k < p.nb_a_large {
+        let offset = k.checked_mul(large_size)?;
         return reached(offset, large_size, l);
     }
-    let Checked::Fits(small_offset) = checked_mul(k - nb_a_large, small_size) else {
-        return BlockLength::Nothing;
-    };
-    let Checked::Fits(large_offset) = checked_mul(nb_a_large, large_size) else {
-        return BlockLength::Nothing;
-    };
-    let Checked::Fits(offset) = checked_add(large_offset, small_offset) else {
-        return BlockLength::Nothing;
-    };
+    let small_offset = (k - p.nb_a_large).checked_mul(small_size)?;
+    let large_offset = p.nb_a_large.checked_mul(large_size)?;
+    let offset = large_offset.checked_add(small_offset)?;
     reached(offset, small_size, l)
 }

@@ -1,34 +1,25 @@
-// Why a call is refused: one reason for each row of document 01's table.
+// Why a call is refused: one reason for each row of the table of refusals.
 ghost use Rattle.std.specs.Prelude.{◌≡◌};
 ghost use Rattle.sizes.specs.Refusals.{refusal_number};
 
-// A reason that will answer more than its number has its value here, as `InTheWay(u64)`.
-#[derive(Clone, Copy)]
+// Each with its number in the table.
+#[derive(Clone, Copy, Debug, PartialEq, Eq)]
 pub enum Refusal {
-    SetUp,
-    NoPriority,
-    Complete,
-    Sizes,
-    Part,
-    NotLoose,
-    Full,
-    NoSession,
-    Record,
+    SetUp = 1,
+    NoPriority = 2,
+    Complete = 3,
+    Sizes = 4,
+    Part = 5,
+    NotLoose = 6,
+    Full = 7,
+    NoSession = 8,
+    Record = 9,
 }
 
-// Its number in the table.
-pub fn number_of(r: Refusal) -> u32
-    ensures { result ≡ refusal_number r }
-{
-    match r {
-        Refusal::SetUp => 1,
-        Refusal::NoPriority => 2,
-        Refusal::Complete => 3,
-        Refusal::Sizes => 4,
-        Refusal::Part => 5,
-        Refusal::NotLoose => 6,
-        Refusal::Full => 7,
-        Refusal::NoSession => 8,
-        Refusal::Record => 9,
+impl From<Refusal> for u32 {
+    ghost from_gives = { λ why n. n ≡ refusal_number why };
+
+    fn from(why: Refusal) -> u32 {
+        why as u32
     }
 }

@@ -1,14 +1,15 @@
 -- Laws on numbers in decimal, and on texts that are put into a buffer one behind another.
 use mathlib.Core.Path.{◌≡◌, refl, sym, ap, ◌∙◌}
-use mathlib.Core.List.{List, [], ◌∷◌, ◌++◌, append_assoc, append-nil}
+use mathlib.Core.List.{List, [], ◌++◌, append_assoc, append-nil}
 use mathlib.Core.Logic.{⊎_elim}
 use Prim.Native.Nat.{ℕ, zero, suc, ◌+◌, ◌-◌, ◌/◌, ◌^◌, ◌<◌, ◌≤◌}
 use native.Mathlib.Nat.{one-le-pow}
-use native.Mathlib.Numerals.{add-one}
 use native.Mathlib.Omega.{arith}
 use borrow.Author.Tests.{lt-ltb, le-ltb}
-use lib.ListN.{length, take, drop, set, length-set, length-append}
-use lib.Seq.{take-suc-set, drop-set-lt, drop-drop}
+use lib.ListN.{length, take, drop, length-append, length-drop}
+use lib.Seq.{drop-drop, length-take-le}
+use borrow.Rule.Slice.PartMut.{put_mid}
+use Rattle.std.proofs.lemmas.Slice.{take-put_mid, drop-put_mid}
 use Rattle.io.specs.Digits.{IsDigitCount}
 use Rattle.text.specs.Put.{places, decimal, Appended, Put}
 use Rattle.text.proofs.Lists.{lt_or_le}
@@ -53,6 +54,22 @@ short n h = rw (digits_length (places n n) n) (few n n 19 (omega arith))
 pub nothing_more : (before : List ℕ) (at : ℕ) → at ≤ length before → Appended before at [] before at
 nothing_more before at h = record { size = refl; end = omega arith; within = h; exact = sym (append-nil _); rest = refl }
 
+-- a text that is written over as many bytes
+pub written : (before text part : List ℕ) (at : ℕ) → at + length text ≤ length before → part ≡ text
+    → Appended before at text (put_mid at (at + length text - at) before part) (at + length text)
+written before text part at h e =
+    let size : at + length text - at ≡ length text = omega arith in
+    let low : at ≤ length before = omega arith in
+    let same : length (put_mid at (length text) before text) ≡ length before = simp (length-append, length-take-le at before low, length-drop) (omega arith) in
+    rw (e, size)
+    (record {
+      size = same;
+      end = refl;
+      within = omega arith;
+      exact = take-put_mid at (length text) before text (at + length text) refl low;
+      rest = drop-put_mid at (length text) before text (at + length text) (omega arith) low refl;
+    })
+
 -- what is equal from r on is equal from any place behind it
 later : (a b : List ℕ) (r m : ℕ) → drop r b ≡ drop r a → drop (r + m) b ≡ drop (r + m) a
 later a b r m e = sym (drop-drop m r b) ∙ ap (drop m) e ∙ drop-drop m r a
@@ -68,20 +85,6 @@ both {a} {b} {c} {t} {u} {at} {r} {s} p q =
       rest = q.rest ∙ (rw q.end (later a b r (length u) p.rest));
     }
 
--- one more byte
-pub byte_behind : {a b t : List ℕ} {at r : ℕ} (m : ℕ) → Appended a at t b r → r < length b → Appended a at (t ++ (m ∷ [])) (set b r m) (r + 1)
-byte_behind {a} {b} {t} {at} {r} m p h =
-    record {
-      size = length-set b r m ∙ p.size;
-      end = rw (length-append t (m ∷ [])) (omega (arith, p.end));
-      within = rw (length-set b r m) (omega arith);
-      exact = rw (add-one r, take-suc-set b r m h, p.exact, append_assoc (take at a) t (m ∷ []));
-      rest = drop-set-lt (r + 1) b r m (omega arith) ∙ later a b r 1 p.rest;
-    }
-
--- a text that does not fit, and one that does
+-- a text that does not fit
 pub left_out : (before text : List ℕ) (at : ℕ) → length before < at + length text → Put before at text before at
 left_out before text at h = record { fits = λ w. absurd (omega arith); past = λ w. (refl, refl) }
-
-pub put_in : {before text after : List ℕ} {at r : ℕ} → at + length text ≤ length before → Appended before at text after r → Put before at text after r
-put_in h p = record { fits = λ w. p; past = λ w. absurd (omega arith) }

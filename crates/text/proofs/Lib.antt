@@ -4,4 +4,6 @@ pub mod LineLaws
 pub mod Lists
 pub mod Numbers
 pub mod ReadBack
-pub mod Words
+pub mod ReaderLaws
+pub mod Takes
+pub mod WordLaws

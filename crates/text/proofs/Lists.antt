@@ -1,16 +1,20 @@
 -- Laws on lists and tests that the loops cite.
-use mathlib.Core.Path.{◌≡◌, refl, sym, ap, ◌∙◌}
+use mathlib.Core.Path.{◌≡◌, refl}
 use mathlib.Core.List.{List, [], ◌∷◌}
-use mathlib.Core.Bool.{Bool, true, false, ◌&&◌, and-false}
+use mathlib.Core.Bool.{Bool, true, false, cond, not, ◌&&◌, and-false}
 use mathlib.Core.Logic.{◌⊎◌, inl, inr, ⊎_elim}
 use Prim.Native.Nat.{ℕ, ◌+◌, ◌-◌, ◌<◌, ◌≤◌, zero-le, suc-le-suc}
-use native.Mathlib.Nat.{not-suc-le-zero, le_of_suc-le-suc, add_comm}
-use native.Mathlib.Numerals.{add-one}
+use native.Mathlib.Nat.{not-suc-le-zero, le_of_suc-le-suc}
+use native.Mathlib.Numerals.{add-one, one-add}
 use native.Mathlib.Omega.{arith}
-use borrow.Author.Tests.{ltb-true, ltb-false, le-leb, lt-leb}
+use borrow.Author.Tests.{ltb-true, ltb-false, le-ltb, lt-ltb, le-leb, lt-leb}
 use lib.Dec.{ltb}
-use lib.ListN.{length, set, take, drop, get_or, length-drop, drop_of_length-le}
-use lib.Seq.{drop-cons, drop-drop, drop-set-lt, get_or-drop, length-take-le, take-suc, take-suc-set}
+use lib.ListN.{length, take, drop, get_or, length-drop, drop_of_length-le}
+use lib.Seq.{drop-cons, get_or-drop, length-take-le}
+use Rattle.std.specs.Prelude.{Option, Some, None}
+use Rattle.std.specs.Option.{unwrap_or}
+use Rattle.std.specs.List.{position_or_len}
+use Rattle.std.proofs.lemmas.List.Recursion.{is_position_or_len}
 use Rattle.text.specs.Bytes.{run_length, pass, part}
 
 pub bool_cases : (b : Bool) → (b ≡ true) ⊎ (b ≡ false)
@@ -39,14 +43,26 @@ module _ (p : ℕ → Bool) where
   run_stops (x ∷ l) h =
       ⊎_elim (λ (t : p x ≡ true). rw t (run_stops l (le_of_suc-le-suc (rw t at h)))) (λ (t : p x ≡ false). rw t t) (bool_cases (p x))
 
+  -- a run ends at the first place that fails the test
+  pub run_position : (l : List ℕ) → run_length p l ≡ position_or_len (λ b. not (p b)) l
+  unfolding run_length
+  run_position l =
+      is_position_or_len (run_length p) (λ b. not (p b)) refl
+      (λ x xs. ⊎_elim (λ (t : p x ≡ true). rw (t, one-add)) (λ (t : p x ≡ false). rw t) (bool_cases (p x)))
+      l
+
+  pub run_found : (l : List ℕ) (r : Option ℕ)
+      → r ≡ cond (ltb (position_or_len (λ b. not (p b)) l) (length l)) (Some (position_or_len (λ b. not (p b)) l)) None
+      → unwrap_or r (length l) ≡ run_length p l
+  run_found l r e =
+      let k = run_within l in
+      rw (e, ← run_position l)
+      (⊎_elim (λ (h : run_length p l < length l). rw (lt-ltb _ _ h)) (λ (h : length l ≤ run_length p l). rw (le-ltb _ _ h) (omega arith)) (lt_or_le (run_length p l) (length l)))
+
   module _ (s : List ℕ) (i : ℕ) where
     pub pass_more : i < length s → p (get_or s i 0) ≡ true → pass p s i ≡ pass p s (i + 1)
     unfolding run_length pass
     pass_more h e = rw (drop-cons s i 0 h, e, add-one i) (omega arith)
-
-    pub pass_stop : i < length s → p (get_or s i 0) ≡ false → pass p s i ≡ i
-    unfolding run_length pass
-    pass_stop h e = rw (drop-cons s i 0 h, e) (omega arith)
 
     pub pass_end : length s ≤ i → pass p s i ≡ i
     unfolding run_length pass
@@ -87,16 +103,3 @@ module _ (start end : ℕ) (s : List ℕ) where
   pub part_past : length s < end → part start end s ≡ []
   unfolding part
   part_past h = rw (lt-leb _ _ h, and-false)
-
--- a turn of the loop that moves bytes to the front: what is moved grows by one, and what is behind it is as it was
-module _ (old buf : List ℕ) (from i : ℕ) (size : length buf ≡ length old) (within : from + i < length old) where
-  pub moved_front : take i buf ≡ take i (drop from old) → drop i buf ≡ drop i old
-      → take (i + 1) (set buf i (get_or buf (from + i) 0)) ≡ take (i + 1) (drop from old)
-  moved_front e f =
-      let g : get_or buf (from + i) 0 ≡ get_or (drop from old) i 0 =
-      ap (λ (k : ℕ). get_or buf k 0) (add_comm from i) ∙ sym (get_or-drop i buf from 0) ∙ ap (λ (l : List ℕ). get_or l from 0) f
-      ∙ get_or-drop i old from 0 ∙ ap (λ (k : ℕ). get_or old k 0) (add_comm i from) ∙ sym (get_or-drop from old i 0) in
-      rw (add-one i, take-suc-set buf i (get_or buf (from + i) 0) (omega arith), take-suc (drop from old) i 0 (rw (length-drop from old) (omega arith)), e, g)
-
-  pub moved_rest : drop i buf ≡ drop i old → drop (i + 1) (set buf i (get_or buf (from + i) 0)) ≡ drop (i + 1) old
-  moved_rest f = rw (drop-set-lt (i + 1) buf i (get_or buf (from + i) 0) (omega arith), ← drop-drop 1 i buf, ← drop-drop 1 i old, f)

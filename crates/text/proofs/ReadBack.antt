@@ -2,7 +2,7 @@
 use mathlib.Core.Path.{◌≡◌, refl, ap, ◌∙◌}
 use mathlib.Core.List.{List, [], ◌∷◌, ◌++◌}
 use mathlib.Core.Bool.{true}
-use mathlib.Core.Option.{some}
+use Rattle.std.specs.Prelude.{Some}
 use Prim.Native.Nat.{ℕ, zero, suc, ◌+◌, ◌/◌, ◌%◌, ◌^◌, ◌<◌}
 use native.Mathlib.Omega.{arith}
 use borrow.Author.Tests.{lt-ltb, le-leb}
@@ -36,5 +36,5 @@ pub digits_length : (k n : ℕ) → length (last_digits 10 k n) ≡ k
 digits_length zero n = refl
 digits_length (suc k) n = rw (length-append (last_digits 10 k (n / 10)) (hex_digit_ascii (n % 10) ∷ []), digits_length k (n / 10)) (omega arith)
 
-pub read_back : (k n : ℕ) → 0 < k → n < 10 ^ k → numeral (last_digits 10 k n) ≡ some n
-read_back k n h l = numeral_some (last_digits 10 k n) (rw (digits_length k n) h) (digits_all k n) ∙ ap some (digits_value k n l)
+pub read_back : (k n : ℕ) → 0 < k → n < 10 ^ k → numeral (last_digits 10 k n) ≡ Some n
+read_back k n h l = numeral_some (last_digits 10 k n) (rw (digits_length k n) h) (digits_all k n) ∙ ap Some (digits_value k n l)

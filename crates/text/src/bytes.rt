@@ -7,12 +7,8 @@ ghost use Rattle.text.specs.Bytes.{part as bytes_part, pass as bytes_pass};
 pub fn part(s: &[u8], start: usize, end: usize) -> &[u8]
     ensures { result.now ≡ bytes_part start end s.now }
 {
-    if start <= end {
-        if end <= s.len() {
-            &s[start..end]
-        } else {
-            &s[..0]
-        }
+    if start <= end && end <= s.len() {
+        &s[start..end]
     } else {
         &s[..0]
     }
@@ -41,14 +37,12 @@ pub fn is_member(c: Class, b: u8) -> bool
 pub fn pass(c: Class, s: &[u8], from: usize) -> usize
     ensures { result ≡ bytes_pass (member c) s.now from }
 {
-    let mut i = from;
-    while i < s.len() {
-        if !is_member(c, s[i]) {
-            return i;
-        }
-        i += 1;
+    if s.len() < from {
+        return from;
     }
-    i
+    let rest = &s[from..];
+    let run = rest.iter().position(|b| !is_member(c, *b));
+    from + run.unwrap_or(rest.len())
 }
 
 // Space, tab, carriage return.
@@ -56,11 +50,5 @@ pub fn pass(c: Class, s: &[u8], from: usize) -> usize
 fn is_blank(b: u8) -> bool
     ensures { result ≡ blank b }
 {
-    if b == 32 {
-        return true;
-    }
-    if b == 9 {
-        return true;
-    }
-    b == 13
+    matches!(b, b' ' | b'\t' | b'\r')
 }

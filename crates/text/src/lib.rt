@@ -7,26 +7,29 @@
 //
 //     let mut input = rt.stdin();
 //     let mut space = [0u8; 65536];
-//     let buf: &mut [u8] = &mut space;
-//     let mut lines = text::open_lines(&mut input, buf);
-//     while 0 < lines.left {
-//         answer(text::this_line(buf, lines));
-//         lines = text::next_line(&mut input, buf, lines);
+//     let mut lines = text::Lines::new(&mut input, &mut space);
+//     for _ in 0..u64::MAX {
+//         let Some(line) = lines.next_line() else { break };
+//         answer(line);
 //     }
+//
+// A proved loop has to end, and nothing says that the input does: so it counts to a number that no run uses up.
 #![tactic(auto)]
 
 mod bytes;
 mod line;
+mod lines;
 mod number;
 mod output;
 mod put;
 mod word;
+mod words;
 
 pub use bytes::part;
-pub use line::{
-    Input, LONGEST, Lines, next_line, open_lines, refill, take_line, this_line, unread,
-};
-pub use number::{Field, Number, next_number, number_of};
+pub use line::{Input, LONGEST, refill, take_line, unread};
+pub use lines::Lines;
+pub use number::{Field, FieldError, NumberError, next_number, number_of};
 pub use output::write_all;
 pub use put::{put_next, put_number, put_text};
 pub use word::{Word, ended, is_word, next_word};
+pub use words::Words;

@@ -1,9 +1,10 @@
 // Lines: what line feeds end, in a slice and from a reader.
 ghost use Rattle.std.specs.Prelude.{◌≡◌, ◌+◌, ◌≤◌, length, take, drop};
 ghost use Rattle.text.specs.Bytes.{part};
-ghost use Rattle.text.specs.Lines.{Refilled, Added, Taken, NextLine, line_from, nothing_read, most_lines};
+ghost use Rattle.text.specs.Lines.{Refilled, Added, LineRead, Taken, nothing_read};
 
 use crate::bytes::{Class, pass};
+use crate::word::Word;
 use std::io::Read;
 
 // Moves the bytes from..to of buf to its front, if it has them, reads once behind them, and answers how far buf is filled.
@@ -26,11 +27,7 @@ fn move_to_front(buf: &mut [u8], from: usize, n: usize)
     requires { from + n ≤ length buf.old }
     ensures { (length buf.new ≡ length buf.old) × (take n buf.new ≡ take n (drop from buf.old)) }
 {
-    let mut i = 0;
-    while i < n {
-        buf[i] = buf[from + i];
-        i += 1;
-    }
+    buf.copy_within(from..from + n, 0);
 }
 
 // Reads once into buf from index `at` on, and answers how far buf is filled.
@@ -44,147 +41,59 @@ fn read_at<R: Read>(input: &mut R, buf: &mut [u8], at: usize) -> usize
     }
 }
 
-// Where a program stands in what it reads, with the buffer that it lends: the line taken last is the
-// bytes start..end of the buffer, and next..to are read and not taken yet. No line was left where `over`
-// is set. Nothing more is read once `ended` is set.
-#[derive(Clone, Copy)]
+// What is read and not taken yet: the bytes from..to of the buffer. Nothing more is read once `ended` is set.
+#[derive(Clone, Copy, Debug, PartialEq, Eq)]
 pub struct Input {
-    pub start: usize,
-    pub end: usize,
-    pub next: usize,
+    pub from: usize,
     pub to: usize,
-    pub over: bool,
     pub ended: bool,
 }
 
-// Nothing read, nothing taken: where reading starts.
+// Nothing read: where reading starts.
 pub fn unread() -> Input
     ensures { result ≡ nothing_read }
 {
     Input {
-        start: 0,
-        end: 0,
-        next: 0,
+        from: 0,
         to: 0,
-        over: false,
         ended: false,
     }
 }
 
-// Takes the next line of what input gives, without its line feed. A line that does not fit buf comes in pieces
-// as long as buf; what follows the last line feed is a line, unless it is empty. A read that fails counts as
-// the end of the input.
-pub fn take_line<R: Read>(input: &mut R, buf: &mut [u8], was: Input) -> Input
-    ensures { Taken (part was.next was.to buf.old) buf.old was.ended buf.new result }
+// Takes the next line of what input gives, without its line feed: the bytes start..end of buf; None where nothing is left.
+// A line that does not fit buf comes in pieces as long as buf; what follows the last line feed is a line, unless it is empty.
+// A read that fails counts as the end of the input.
+pub fn take_line<R: Read>(input: &mut R, buf: &mut [u8], at: &mut Input) -> Option<Word>
+    ensures { Taken (part at.old.from at.old.to buf.old) buf.old at.old.ended buf.new result at.new }
 {
-    let from = was.next;
-    let to = was.to;
-    let ended = was.ended;
-    if to < from {
-        return take_from(input, buf, 0, 0, ended);
+    let end = read_line(input, buf, at);
+    let start = at.from;
+    if start == at.to {
+        return None;
     }
-    if buf.len() < to {
-        return take_from(input, buf, 0, 0, ended);
-    }
-    take_from(input, buf, from, to, ended)
+    at.from = if end < at.to { end + 1 } else { end };
+    Some(Word { start, end })
 }
 
-// The same, where from..to is pending.
-fn take_from<R: Read>(input: &mut R, buf: &mut [u8], from: usize, to: usize, ended: bool) -> Input
-    requires { (from ≤ to) × (to ≤ length buf.old) }
-    ensures { Taken (part from to buf.old) buf.old ended buf.new result }
+// Reads until what is pending has a line feed, or fills buf, or nothing more comes; answers where its first line ends.
+fn read_line<R: Read>(input: &mut R, buf: &mut [u8], at: &mut Input) -> usize
+    ensures { LineRead (part at.old.from at.old.to buf.old) buf.old at.old.ended buf.new result at.new }
 {
-    if ended {
-        return first_line(buf, from, to, true);
+    if at.to < at.from || buf.len() < at.to {
+        at.from = 0;
+        at.to = 0;
     }
-    let mut at = from;
-    let mut end = to;
-    while end - at < buf.len() {
-        let r = first_line(buf, at, end, false);
-        if r.end < end {
-            return r;
+    loop {
+        let end = pass(Class::InLine, &buf[..at.to], at.from);
+        let pending = at.to - at.from;
+        if end < at.to || at.ended || buf.len() <= pending {
+            return end;
         }
-        let n = refill(input, buf, at, end);
-        if n == end - at {
-            return first_line(buf, 0, n, true);
-        }
-        at = 0;
-        end = n;
-    }
-    first_line(buf, at, end, false)
-}
-
-// The first line of from..to.
-fn first_line(s: &[u8], from: usize, to: usize, ended: bool) -> Input
-    requires { (from ≤ to) × (to ≤ length s.now) }
-    ensures { result ≡ line_from s.now from to ended }
-{
-    let end = pass(Class::InLine, &s[..to], from);
-    let over = from == to;
-    if end < to {
-        return Input {
-            start: from,
-            end,
-            next: end + 1,
-            to,
-            over,
-            ended,
-        };
-    }
-    Input {
-        start: from,
-        end,
-        next: to,
-        to,
-        over,
-        ended,
+        at.to = refill(input, buf, at.from, at.to);
+        at.from = 0;
+        at.ended = at.to == pending;
     }
 }
 
 // The longest line that a program reads. One that fills the reading buffer may be cut there, so it is no command.
 pub const LONGEST: usize = 65535;
-
-// The line taken last, and how many may still be taken, with this one: 0 where none was left. A proved loop has to end,
-// and nothing says that the input does: so the lines are counted down, from a number that no run uses up.
-#[derive(Clone, Copy)]
-pub struct Lines {
-    pub at: Input,
-    pub left: u64,
-}
-
-// Takes the first line of what input gives.
-pub fn open_lines<R: Read>(input: &mut R, buf: &mut [u8]) -> Lines
-    ensures { NextLine (record { at = nothing_read; left = most_lines }) buf.old buf.new result }
-{
-    let none = Lines {
-        at: unread(),
-        left: u64::MAX,
-    };
-    next_line(input, buf, none)
-}
-
-// Takes the next one.
-pub fn next_line<R: Read>(input: &mut R, buf: &mut [u8], was: Lines) -> Lines
-    ensures { NextLine was buf.old buf.new result }
-{
-    let before = was.at;
-    let at = take_line(input, buf, before);
-    if at.over {
-        return Lines { at, left: 0 };
-    }
-    if was.left == 0 {
-        return Lines { at, left: 0 };
-    }
-    Lines {
-        at,
-        left: was.left - 1,
-    }
-}
-
-// The bytes of the line taken last.
-pub fn this_line(buf: &[u8], lines: Lines) -> &[u8]
-    ensures { result.now ≡ part lines.at.start lines.at.end buf.now }
-{
-    let at = lines.at;
-    crate::bytes::part(buf, at.start, at.end)
-}

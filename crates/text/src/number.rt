@@ -1,88 +1,84 @@
 // Decimal numerals: digits only, the most significant first, with zeros in front or without.
-ghost use Rattle.std.specs.Prelude.{◌≡◌, true, ℕ, ◌+◌, ◌-◌, ◌*◌};
+ghost use Rattle.std.specs.Prelude.{◌≡◌, true, ◌+◌, ◌-◌, ◌*◌};
 ghost use Rattle.text.specs.Numbers.{digit, numeral_answer, in_width, NextNumber};
 
 use crate::bytes::part;
-use crate::word::{Word, next_word};
+use crate::word::next_word;
 
-// A numeral below 2^64; a numeral of 2^64 or more; no numeral.
-#[derive(Clone, Copy)]
-pub enum Number {
-    Value(u64),
+// Why a word is no number of 64 bits: it is a numeral of 2^64 or more, or no numeral.
+#[derive(Clone, Copy, Debug, PartialEq, Eq)]
+pub enum NumberError {
     Past,
     Unreadable,
 }
 
 // The whole of w as a numeral.
-#[tactic(auto, using(crate::proofs::Numbers::number_empty))]
-pub fn number_of(w: &[u8]) -> Number
+pub fn number_of(w: &[u8]) -> Result<u64, NumberError>
     ensures { result ≡ numeral_answer w.now }
 {
-    if w.len() == 0 {
-        return Number::Unreadable;
+    if w.is_empty() {
+        return Err(NumberError::Unreadable);
     }
-    let mut n = Number::Value(0);
-    let mut i = 0;
-    while i < w.len() {
-        let b = w[i];
-        if !is_digit(b) {
-            return Number::Unreadable;
-        }
-        n = with_digit(n, b);
-        i += 1;
+    if !w.iter().all(|b| is_digit(*b)) {
+        return Err(NumberError::Unreadable);
     }
-    n
+    let mut n = 0;
+    for b in w {
+        n = with_digit(n, *b)?;
+    }
+    Ok(n)
 }
 
+#[tactic(auto, unfolding(crate::specs::Numbers::digit))]
 fn is_digit(b: u8) -> bool
     ensures { result ≡ digit b }
 {
-    if b < 48 {
-        return false;
-    }
-    b <= 57
+    b.is_ascii_digit()
 }
 
-// n is what is known of the digits so far; b is one more.
-fn with_digit(n: Number, b: u8) -> Number
+// One more digit behind the number n.
+fn with_digit(n: u64, b: u8) -> Result<u64, NumberError>
     requires { digit b ≡ true }
-    ensures { (v : ℕ) → n ≡ in_width v → result ≡ in_width (v * 10 + (b - 48)) }
+    ensures { result ≡ in_width (n * 10 + (b - 48)) }
 {
-    match n {
-        Number::Past => Number::Past,
-        Number::Unreadable => Number::Unreadable,
-        Number::Value(v) => {
-            if 1844674407370955161 < v {
-                return Number::Past;
-            }
-            let tens = v * 10;
-            let d = (b - 48) as u64;
-            if u64::MAX - tens < d {
-                return Number::Past;
-            }
-            Number::Value(tens + d)
-        }
-    }
+    let tens = n.checked_mul(10).ok_or(NumberError::Past)?;
+    let d = u64::from(b - 48);
+    tens.checked_add(d).ok_or(NumberError::Past)
 }
 
-// A number and the place behind it; no word is left; the word is no number below 2^64.
-#[derive(Clone, Copy)]
-pub enum Field {
-    Value { value: u64, next: usize },
+// A number, and the place behind it.
+#[derive(Clone, Copy, Debug, PartialEq, Eq)]
+pub struct Field {
+    pub value: u64,
+    pub next: usize,
+}
+
+// Why there is no number next: no word is left, or the word is no number below 2^64.
+#[derive(Clone, Copy, Debug, PartialEq, Eq)]
+pub enum FieldError {
     Missing,
     Bad,
 }
 
+impl From<NumberError> for FieldError {
+    ghost use Rattle.std.specs.Prelude.{◌≡◌};
+    ghost use Rattle.text.specs.declared.number.FieldError.TheVariants.{Bad};
+
+    ghost from_gives = { λ _ e. e ≡ Bad };
+
+    fn from(_error: NumberError) -> FieldError {
+        FieldError::Bad
+    }
+}
+
 // The next word at or after `from`, as a number.
-pub fn next_number(s: &[u8], from: usize) -> Field
+pub fn next_number(s: &[u8], from: usize) -> Result<Field, FieldError>
     ensures { NextNumber s.now from result }
 {
-    let Word::At { start, end } = next_word(s, from) else {
-        return Field::Missing;
-    };
-    match number_of(part(s, start, end)) {
-        Number::Value(value) => Field::Value { value, next: end },
-        Number::Past => Field::Bad,
-        Number::Unreadable => Field::Bad,
-    }
+    let word = next_word(s, from).ok_or(FieldError::Missing)?;
+    let value = number_of(part(s, word.start, word.end))?;
+    Ok(Field {
+        value,
+        next: word.end,
+    })
 }

@@ -5,47 +5,34 @@ ghost use Rattle.text.specs.Words.{NextWord, is_end, same, word_from};
 use crate::bytes::{Class, pass};
 
 // A word is the bytes start..end.
-#[derive(Clone, Copy)]
-pub enum Word {
-    At { start: usize, end: usize },
-    End,
+#[derive(Clone, Copy, Debug, PartialEq, Eq)]
+pub struct Word {
+    pub start: usize,
+    pub end: usize,
 }
 
-// The next word at or after `from`: End where only blanks are left, or `from` is past the end.
-pub fn next_word(s: &[u8], from: usize) -> Word
+// The next word at or after `from`: None where only blanks are left, or `from` is past the end.
+pub fn next_word(s: &[u8], from: usize) -> Option<Word>
     ensures { NextWord s.now from result }
 {
     let start = pass(Class::Blank, s, from);
     if s.len() <= start {
-        return Word::End;
+        return None;
     }
     let end = pass(Class::Ink, s, start);
-    Word::At { start, end }
+    Some(Word { start, end })
 }
 
 // Is there no word at or after `from`?
 pub fn ended(s: &[u8], from: usize) -> bool
     ensures { result ≡ is_end (word_from s.now from) }
 {
-    let Word::End = next_word(s, from) else {
-        return false;
-    };
-    true
+    next_word(s, from).is_none()
 }
 
 // Has w just the bytes of name?
 pub fn is_word(w: &[u8], name: &[u8]) -> bool
     ensures { result ≡ same w.now name.now }
 {
-    if w.len() != name.len() {
-        return false;
-    }
-    let mut i = 0;
-    while i < w.len() {
-        if w[i] != name[i] {
-            return false;
-        }
-        i += 1;
-    }
-    true
+    w == name
 }

@@ -3,7 +3,7 @@ use mathlib.Core.Path.{◌≡◌, refl, sym, ◌∙◌, ap}
 use mathlib.Core.Bool.{true}
 use mathlib.Core.List.{List, [], ◌∷◌, ◌++◌, map, map-append}
 use Prim.Native.Nat.{ℕ, zero, suc, ◌+◌, ◌*◌, ◌/◌, ◌%◌, ◌^◌, ◌<◌, ◌≤◌}
-use native.Mathlib.Nat.{add-zero, add_comm, mul_assoc, add-mul, div-add-mod', mod-lt, mod-eq_of_lt, div-div-eq-div-mul, mul-add-div_right, mul-add-mod_self_right, div-eq_of_lt, mul-le-mul_right, div-one, mod-one}
+use native.Mathlib.Nat.{add-zero, add_comm, mul_assoc, add-mul, div-add-mod', mod-lt, mod-eq_of_lt, div-div-eq-div-mul, mul-add-div_right, mul-add-mod_self_right, div-eq_of_lt, mul-le-mul_right, mod-one}
 use native.Mathlib.Omega.{arith}
 use borrow.Author.Tests.{lt-ltb, ltb-true}
 use lib.Dec.{ltb}
@@ -140,11 +140,7 @@ pub bytes_length : (k n : ℕ) → length (last_bytes k n) ≡ k
 unfolding last_bytes
 bytes_length k n = split_length (replicate k 8) n ∙ length-replicate k 8
 
--- one byte more, at the right
-pub bytes_snoc : (k n : ℕ) → last_bytes (k + 1) n ≡ last_bytes k (n / 256) ++ (n % 256 ∷ [])
-unfolding last_bytes split_bits total
-bytes_snoc k n = rw (← replicate-append-replicate {A = ℕ} k 1 8) (split_append (replicate k 8) (8 ∷ []) n ∙ ap (λ b. split_bits (replicate k 8) (n / 256) ++ (b % 256 ∷ [])) (div-one n))
-
+-- bytes side by side
 pub bytes_append : (k m n : ℕ) → last_bytes (k + m) n ≡ last_bytes k (n / 2 ^ total (replicate m 8)) ++ last_bytes m n
 unfolding last_bytes
 bytes_append k m n = rw (← replicate-append-replicate {A = ℕ} k m 8) (split_append (replicate k 8) (replicate m 8) n)
@@ -177,14 +173,10 @@ byte_fields zero (b ∷ bs) h = absurd (omega arith)
 byte_fields (suc k) [] h = absurd (omega arith)
 byte_fields (suc k) (b ∷ bs) h = ap (λ l. byte b ∷ l) (byte_fields k bs (omega arith))
 
--- the number that bytes spell, one byte more and side by side
+-- the number that bytes spell, side by side
 pub number_append : (l m : List ℕ) → number_spelled (l ++ m) ≡ number_spelled l * 2 ^ total (replicate (length m) 8) + number_spelled m
 unfolding number_spelled
 number_append l m = rw (map-append byte l m, ← byte_widths m) (join_append (map byte l) (map byte m))
-
-pub number_snoc : (l : List ℕ) (b : ℕ) → number_spelled (l ++ (b ∷ [])) ≡ number_spelled l * 256 + b
-unfolding number_spelled join total
-number_snoc l b = number_append l (b ∷ []) ∙ omega arith
 
 pub number_below : (bs : List ℕ) → Each (λ b. b < 256) bs → number_spelled bs < 2 ^ total (replicate (length bs) 8)
 unfolding number_spelled

@@ -9,16 +9,16 @@ use borrow.Author.Tests.{lt-ltb, le-leb, lt-leb, eq-eqb, ne_eqb}
 use mir.Val.{bool_byte}
 use lib.Dec.{eqb}
 use lib.Pow.{pow-add, pow_pos}
-use lib.ListN.{length, take, drop, length-drop}
-use lib.Seq.{drop-drop, take_all}
+use lib.ListN.{length, drop, length-drop}
+use lib.Seq.{drop-drop}
+use Rattle.std.specs.Prelude.{Ok, Err}
 use Rattle.sizes.specs.Words.{one_if}
+use Rattle.sizes.specs.declared.refusal.Refusal.TheVariants as Because
 use Rattle.sizes.proofs.Tests.{Tested, pass, fail, tested, and_left}
 use Rattle.wire.specs.Packing.{Field, field_widths, total, join, fields_fit, split_bits, last_bytes, number_spelled}
 use Rattle.wire.specs.Record.{in_bits, layout, with_values, padding, record_widths, record_size, well_named, good, written, values_in, writable, write_answer, write_buffer, RecordWrites, readable, read_answer, RecordReads}
-use Rattle.wire.specs.RecordWords.{first_fields, second_fields, third_fields, last_fields, record_in}
+use Rattle.wire.specs.RecordWords.{first_fields, second_fields, third_fields, last_fields, record_in, AreWords}
 use Rattle.wire.specs.declared.record.Record.{Record}
-use Rattle.wire.specs.declared.record.Writing.TheVariants.{Done, Refused}
-use Rattle.wire.specs.declared.record.Reading.TheVariants.{Fields, Refused as NoRecord}
 use Rattle.wire.proofs.PackingLaws.{field_values, with_widths, below_product, high_part, low_part, join_split_below, number_cut, join_append, split_join, fits_head, fits_tail, fits_both, bytes_word}
 
 -- no value is too wide
@@ -252,19 +252,17 @@ module _ (a b c d : ℕ) where
   words_held : a < 2 ^ 64 → b < 2 ^ 64 → c < 2 ^ 64 → d < 2 ^ 32 → d % 2 ^ 26 ≡ 0 → join (layout (record_in a b c d)) ≡ spread a b c d
   words_held ha hb hc hd z = in_words (record_in a b c d) ∙ (λ i. spread (first_held ha i) (second_held hb i) (third_held hc i) (last_held hd z i))
 
--- four words of 28 bytes
-number_words : (bs : List ℕ) → length bs ≡ 28
-    → number_spelled bs ≡ spread (number_spelled (take 8 (drop 0 bs))) (number_spelled (take 8 (drop 8 bs))) (number_spelled (take 8 (drop 16 bs))) (number_spelled (take 4 (drop 24 bs)))
+-- the words of 28 bytes, as one number
+words_number : (bs : List ℕ) (a b c d : ℕ) → AreWords bs a b c d → number_spelled bs ≡ spread a b c d
 unfolding spread total
-number_words bs h =
-    let a = number_spelled (take 8 bs) in
-    let b = number_spelled (take 8 (drop 8 bs)) in
-    let c = number_spelled (take 8 (drop 16 bs)) in
-    number_cut bs 8 20 h
-    ∙ ap (λ x. a * 2 ^ 160 + x) (number_cut (drop 8 bs) 8 12 (length-drop 8 bs ∙ omega arith)
-    ∙ ap (λ l. b * 2 ^ 96 + number_spelled l) (drop-drop 8 8 bs)
-    ∙ ap (λ x. b * 2 ^ 96 + x) (number_cut (drop 16 bs) 8 4 (length-drop 16 bs ∙ omega arith)
-    ∙ ap (λ l. c * 2 ^ 32 + number_spelled l) (drop-drop 8 16 bs ∙ sym (take_all 4 (drop 24 bs) (omega (arith, length-drop 24 bs))))))
+words_number bs a b c d w =
+    number_cut bs 8 20 w.size
+    ∙ (λ i. sym w.first i * 2 ^ 160 + number_spelled (drop 8 bs))
+    ∙ ap (λ x. a * 2 ^ 160 + x) (number_cut (drop 8 bs) 8 12 (length-drop 8 bs ∙ omega (arith, w.size))
+    ∙ (λ i. sym w.second i * 2 ^ 96 + number_spelled (drop-drop 8 8 bs i))
+    ∙ ap (λ x. b * 2 ^ 96 + x) (number_cut (drop 16 bs) 8 4 (length-drop 16 bs ∙ omega (arith, w.size))
+    ∙ (λ i. sym w.third i * 2 ^ 32 + number_spelled (drop-drop 8 16 bs i))
+    ∙ ap (λ x. c * 2 ^ 32 + x) (sym w.last)))
 
 -- what lies above the last 26 bits is not seen there
 above_padding : (a k y : ℕ) → (a * (k * 2 ^ 26) + y) % 2 ^ 26 ≡ y % 2 ^ 26
@@ -279,17 +277,13 @@ unfolding padding values_in split_bits record_widths layout with_values total
 padding_of_number bs = ap (λ n. n % 2 ^ 26) (div-one (number_spelled bs))
 
 -- what 28 bytes hold, by their four words
-module _ (bs : List ℕ) (h : length bs ≡ record_size) (a b c d : ℕ) (ea : a ≡ number_spelled (take 8 (drop 0 bs))) (eb : b ≡ number_spelled (take 8 (drop 8 bs)))
-    (ec : c ≡ number_spelled (take 8 (drop 16 bs))) (ed : d ≡ number_spelled (take 4 (drop 24 bs))) where
-  words_number : number_spelled bs ≡ spread a b c d
-  words_number = number_words bs h ∙ (λ i. spread (sym ea i) (sym eb i) (sym ec i) (sym ed i))
-
+module _ (bs : List ℕ) (a b c d : ℕ) (w : AreWords bs a b c d) where
   pub words_padding : padding (values_in bs) ≡ d % 2 ^ 26
-  words_padding = padding_of_number bs ∙ ap (λ n. n % 2 ^ 26) words_number ∙ padding_spread a b c d
+  words_padding = padding_of_number bs ∙ ap (λ n. n % 2 ^ 26) (words_number bs a b c d w) ∙ padding_spread a b c d
 
   pub words_record : a < 2 ^ 64 → b < 2 ^ 64 → c < 2 ^ 64 → d < 2 ^ 32 → d % 2 ^ 26 ≡ 0 → with_values (values_in bs) ≡ record_in a b c d
   words_record ha hb hc hd z =
-      ap with_values (values_spelt bs (record_in a b c d) (held_fit a b c d) (words_number ∙ sym (words_held a b c d ha hb hc hd z)))
+      ap with_values (values_spelt bs (record_in a b c d) (held_fit a b c d) (words_number bs a b c d w ∙ sym (words_held a b c d ha hb hc hd z)))
       ∙ values_back (record_in a b c d)
 
 -- a flag that was made a number
@@ -299,22 +293,22 @@ byte_flag false = refl
 
 -- what a write does: refused for want of room or for the fields, or done
 module _ (before : List ℕ) (r : Record) where
-  pub write_short : length before < record_size → RecordWrites before r Refused before
+  pub write_short : length before < record_size → RecordWrites before r (Err Because.Record) before
   unfolding write_answer write_buffer writable
   write_short h = record { answer = rw (lt-leb record_size (length before) h); buffer = rw (lt-leb record_size (length before) h) }
 
-  pub write_bad : record_size ≤ length before → good r ≡ false → RecordWrites before r Refused before
+  pub write_bad : record_size ≤ length before → good r ≡ false → RecordWrites before r (Err Because.Record) before
   unfolding write_answer write_buffer writable
   write_bad h g = record { answer = rw (le-leb record_size (length before) h, g); buffer = rw (le-leb record_size (length before) h, g) }
 
-  pub write_done : (after : List ℕ) → record_size ≤ length before → good r ≡ true → after ≡ written r ++ drop record_size before → RecordWrites before r Done after
+  pub write_done : (after : List ℕ) → record_size ≤ length before → good r ≡ true → after ≡ written r ++ drop record_size before → RecordWrites before r (Ok tt) after
   unfolding write_answer write_buffer writable
   write_done after h g e = record { answer = rw (le-leb record_size (length before) h, g); buffer = rw (le-leb record_size (length before) h, g) e }
 
   -- done, by the four words
   pub write_words : (after : List ℕ) (a b c d : ℕ) → record_size ≤ length before → good r ≡ true
       → after ≡ last_bytes 8 a ++ (last_bytes 8 b ++ (last_bytes 8 c ++ (last_bytes 4 d ++ drop record_size before)))
-      → a ≡ join (first_fields r) → b ≡ join (second_fields r) → c ≡ join (third_fields r) → d ≡ join (last_fields r) → RecordWrites before r Done after
+      → a ≡ join (first_fields r) → b ≡ join (second_fields r) → c ≡ join (third_fields r) → d ≡ join (last_fields r) → RecordWrites before r (Ok tt) after
   write_words after a b c d h g e ea eb ec ed =
       let l = drop record_size before in
       write_done after h g
@@ -324,19 +318,19 @@ module _ (before : List ℕ) (r : Record) where
 
 -- what a read answers, by its tests
 module _ (bs : List ℕ) where
-  pub read_unlike : (length bs ≡ record_size → ⊥) → RecordReads bs NoRecord
+  pub read_unlike : (length bs ≡ record_size → ⊥) → RecordReads bs (Err Because.Record)
   unfolding read_answer readable
   read_unlike h = record { answer = rw (ne_eqb (length bs) record_size h) }
 
-  pub read_padded : length bs ≡ record_size → (padding (values_in bs) ≡ 0 → ⊥) → RecordReads bs NoRecord
+  pub read_padded : length bs ≡ record_size → (padding (values_in bs) ≡ 0 → ⊥) → RecordReads bs (Err Because.Record)
   unfolding read_answer readable
   read_padded h p = record { answer = rw (eq-eqb (length bs) record_size h, ne_eqb (padding (values_in bs)) 0 p) }
 
   module _ (r : Record) (h : length bs ≡ record_size) (p : padding (values_in bs) ≡ 0) (e : with_values (values_in bs) ≡ r) where
-    pub read_bad : good r ≡ false → RecordReads bs NoRecord
+    pub read_bad : good r ≡ false → RecordReads bs (Err Because.Record)
     unfolding read_answer readable
     read_bad g = record { answer = rw (eq-eqb (length bs) record_size h, eq-eqb (padding (values_in bs)) 0 p, e, g) }
 
-    pub read_good : good r ≡ true → RecordReads bs (Fields r)
+    pub read_good : good r ≡ true → RecordReads bs (Ok r)
     unfolding read_answer readable
     read_good g = record { answer = rw (eq-eqb (length bs) record_size h, eq-eqb (padding (values_in bs)) 0 p, e, g) }

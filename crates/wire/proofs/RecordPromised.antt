@@ -9,6 +9,7 @@ use borrow.Author.Tests.{lt-leb, le-leb, leb-true, eqb-true, eqb-false, eq-eqb, 
 use lib.Dec.{eqb, leb}
 use lib.ListN.{length, take, drop, length-append, length-drop}
 use lib.Seq.{take_at, drop_at}
+use Rattle.std.specs.Prelude.{Result}
 use Rattle.sizes.specs.declared.refusal.Refusal.{Refusal}
 use Rattle.sizes.specs.declared.refusal.Refusal.TheVariants as Because
 use Rattle.sizes.proofs.Tests.{Tested, pass, fail, tested, and_left, and_right}
@@ -17,8 +18,6 @@ use Rattle.wire.specs.Packing.{total, join, fields_fit, split_bits, last_bytes, 
 use Rattle.wire.specs.Record.{in_bits, layout, with_values, padding, record_widths, record_size, well_named, good, written, values_in, RecordAnswer, done, fields, refused, writing_said, reading_said, writable, write_answer, write_buffer, RecordWrites, readable, read_answer, RecordReads}
 use Rattle.wire.specs.RecordPromises.{Bytes, Fault, wide_id, wide_toi, wide_block, wide_symbol, wide_length, wide_total, wide_symbols, no_toi, toi_of_fdt, id_of_object, WriteFault, ReadFault, WritePromised, ReadPromised, RecordPromised}
 use Rattle.wire.specs.declared.record.Record.{Record}
-use Rattle.wire.specs.declared.record.Writing.{Writing}
-use Rattle.wire.specs.declared.record.Reading.{Reading}
 use Rattle.wire.proofs.PackingLaws.{field_values, with_widths, join_below, join_split_below, number_below, number_bytes, bytes_number, bytes_length}
 use Rattle.wire.proofs.RecordLaws.{Fit, fit_fits, good_fit, wide_bad, fit_good, fdt_named, no_number, object_named, bit_flag, values_back, values_spelt, read_good}
 
@@ -124,7 +123,7 @@ written_back bs b h p =
     ∙ bytes_number bs b
 
 -- one write
-module _ (before : List ℕ) (r : Record) (a : Writing) (after : List ℕ) (w : RecordWrites before r a after) where
+module _ (before : List ℕ) (r : Record) (a : Result (Unit {0}) Refusal) (after : List ℕ) (w : RecordWrites before r a after) where
   yes : writable before r ≡ true → (writing_said a ≡ done) × (after ≡ written r ++ drop record_size before)
   unfolding write_answer write_buffer
   yes e = (w.answer ∙ rw e, w.buffer ∙ rw e)
@@ -199,14 +198,14 @@ module _ (before : List ℕ) (r : Record) (a : Writing) (after : List ℕ) (w : 
           ap length (yes e).1 ∙ length-append (written r) (drop record_size before) ∙ omega (arith, written_length r, length-drop record_size before, room e)
       as_long (fail e) = ap length (no e).1
 
-      back : (b : Reading) → writing_said a ≡ done → RecordReads (take record_size after) b → reading_said b ≡ fields r
+      back : (b : Result Record Refusal) → writing_said a ≡ done → RecordReads (take record_size after) b → reading_said b ≡ fields r
       back b s q =
           let e = was_yes s in
           let t : take record_size after ≡ written r = ap (take record_size) (yes e).1 ∙ take_at (written r) (drop record_size before) record_size (written_length r) in
           q.answer ∙ ap read_answer t ∙ read_written r (fine e)
 
 -- one read
-module _ (bs : List ℕ) (a : Reading) (b : Bytes bs) (q : RecordReads bs a) where
+module _ (bs : List ℕ) (a : Result Record Refusal) (b : Bytes bs) (q : RecordReads bs a) where
   found : Record
   found = with_values (values_in bs)
 
@@ -248,13 +247,13 @@ module _ (bs : List ℕ) (a : Reading) (b : Bytes bs) (q : RecordReads bs a) whe
   unfolding found
   faulty_not f = go (tested (readable bs)) f
     where
-      none : readable bs ≡ true → ReadFault bs → ⊥
-      none e (ReadFault.wrong_length n) = n (readable_all e).0
-      none e (ReadFault.bit_in_padding h) = omega (arith, (readable_all e).1)
-      none e (ReadFault.bad_fields g) = true≢false (sym (readable_all e).2 ∙ fault_bad found g)
+      None : readable bs ≡ true → ReadFault bs → ⊥
+      None e (ReadFault.wrong_length n) = n (readable_all e).0
+      None e (ReadFault.bit_in_padding h) = omega (arith, (readable_all e).1)
+      None e (ReadFault.bad_fields g) = true≢false (sym (readable_all e).2 ∙ fault_bad found g)
 
       go : Tested (readable bs) → ReadFault bs → readable bs ≡ false
-      go (pass e) g = absurd (none e g)
+      go (pass e) g = absurd (None e g)
       go (fail e) g = e
 
   not_faulty : readable bs ≡ false → ReadFault bs
@@ -297,7 +296,7 @@ module _ (bs : List ℕ) (a : Reading) (b : Bytes bs) (q : RecordReads bs a) whe
       all_read n (pass e) = got e
       all_read n (fail e) = absurd (n (not_faulty e))
 
-      again : (r : Record) (before : List ℕ) (w : Writing) (after : List ℕ) → reading_said a ≡ fields r → record_size ≤ length before
+      again : (r : Record) (before : List ℕ) (w : Result (Unit {0}) Refusal) (after : List ℕ) → reading_said a ≡ fields r → record_size ≤ length before
           → RecordWrites before r w after → (writing_said w ≡ done) × (after ≡ bs ++ drop record_size before)
       again r before w after s h m =
           let k = accepted r s in

@@ -1,99 +1,70 @@
--- Laws of a word that is put into a buffer byte by byte, from its last byte to its first, and of one that is read.
-use mathlib.Core.Path.{◌≡◌, refl, sym, ◌∙◌, ap}
+-- Laws of words in bytes: as they are put into a buffer one behind the other, and as they are read.
+use mathlib.Core.Path.{◌≡◌, sym, ◌∙◌, ap}
 use mathlib.Core.List.{List, [], ◌∷◌, ◌++◌, append_assoc}
-use Prim.Native.Nat.{ℕ, suc, ◌+◌, ◌*◌, ◌/◌, ◌%◌, ◌^◌, ◌<◌, ◌≤◌}
-use native.Mathlib.Numerals.{add-one}
+use Prim.Native.Nat.{ℕ, ◌≤◌}
+use native.Mathlib.Nat.{div-one}
 use native.Mathlib.Omega.{arith}
-use lib.ListN.{length, take, drop, get_or, set, length-append, length-set, length-drop, take-append-drop}
-use lib.Seq.{take_at, drop-append-add, drop-drop, drop-cons, take-suc, take-take, take-set-le, drop-set-lt, get_or-set_same, get_or-drop}
-use lib.Pow.{pow-add, pow_mono}
-use Rattle.wire.specs.Packing.{split_bits, last_bytes, number_spelled}
-use Rattle.wire.proofs.PackingLaws.{below_product, bytes_length, bytes_snoc, number_snoc}
+use borrow.Rule.Slice.PartMut.{put_mid}
+use lib.ListN.{length, take, drop, length-append, length-drop}
+use lib.Seq.{take_at, drop_at, drop-drop}
+use Rattle.std.proofs.Common.{length-take-le}
+use Rattle.std.specs.Int.{w32, w64, to_be_bytes, from_be_bytes}
+use Rattle.wire.specs.Packing.{total, join, split_bits, last_bytes, number_spelled}
+use Rattle.wire.specs.RecordWords.{AreWords}
 
--- of the n bytes of w at `at`, those behind the first i stand in out; the first i are those of rest
-pub record Putting (before : List ℕ) (at n w : ℕ) (out : List ℕ) (rest i : ℕ) : Type 0 where
-  pub left : i ≤ n
-  pub size : length out ≡ length before
-  pub front : take (at + i) out ≡ take (at + i) before
-  pub back : last_bytes i rest ++ drop (at + i) out ≡ last_bytes n w ++ drop (at + n) before
+-- the bytes of a word are its last ones
+pub word_bytes : (n : ℕ) → to_be_bytes w64 n ≡ last_bytes 8 n
+unfolding last_bytes split_bits total
+word_bytes n = rw (div-one n)
 
-one_stored : (out : List ℕ) (k b : ℕ) → k < length out → drop k (set out k b) ≡ b ∷ drop (k + 1) out
-one_stored out k b h =
-    drop-cons (set out k b) k 0 (rw length-set h)
-    ∙ (λ i. get_or-set_same out k b 0 h i ∷ drop-set-lt (suc k) out k b (omega arith) i)
-    ∙ ap (λ n. b ∷ drop n out) (sym (add-one k))
+pub half_bytes : (n : ℕ) → to_be_bytes w32 n ≡ last_bytes 4 n
+unfolding last_bytes split_bits total
+half_bytes n = rw (div-one n)
 
-module _ (before : List ℕ) (at n w : ℕ) where
-  pub put_none : Putting before at n w before w n
-  put_none = record { left = omega arith; size = refl; front = refl; back = refl }
+-- and a word that is made of bytes is what they spell
+pub word_spelled : (bs : List ℕ) → length bs ≡ 8 → from_be_bytes w64 bs ≡ number_spelled bs
+unfolding number_spelled join total
+word_spelled (a ∷ b ∷ c ∷ d ∷ e ∷ f ∷ g ∷ h ∷ []) l = omega arith
+word_spelled bs l = absurd (omega arith)
 
-  pub put_one : (out : List ℕ) (rest j : ℕ) → at + n ≤ length before → Putting before at n w out rest (j + 1)
-      → Putting before at n w (set out (at + j) (rest % 256)) (rest / 256) j
-  put_one out rest j room p =
-      let next : at + j + 1 ≡ at + (j + 1) = omega arith in
-      let inside : at + j < length out = omega (arith, p.left, p.size) in
-      record {
-        left = omega (arith, p.left);
-        size = length-set out (at + j) (rest % 256) ∙ p.size;
-        front =
-            take-set-le (at + j) out (at + j) (rest % 256) (omega arith)
-            ∙ sym (take-take (at + j) (at + (j + 1)) out (omega arith))
-            ∙ ap (take (at + j)) p.front
-            ∙ take-take (at + j) (at + (j + 1)) before (omega arith);
-        back =
-            ap (λ l. last_bytes j (rest / 256) ++ l) (one_stored out (at + j) (rest % 256) inside)
-            ∙ sym (append_assoc (last_bytes j (rest / 256)) (rest % 256 ∷ []) (drop (at + j + 1) out))
-            ∙ ap (λ l. l ++ drop (at + j + 1) out) (sym (bytes_snoc j rest))
-            ∙ ap (λ k. last_bytes (j + 1) rest ++ drop k out) next
-            ∙ p.back;
-      }
+pub half_spelled : (bs : List ℕ) → length bs ≡ 4 → from_be_bytes w32 bs ≡ number_spelled bs
+unfolding number_spelled join total
+half_spelled (a ∷ b ∷ c ∷ d ∷ []) l = omega arith
+half_spelled bs l = absurd (omega arith)
 
-  pub put_all : (out : List ℕ) (rest : ℕ) → Putting before at n w out rest 0 → out ≡ take at before ++ (last_bytes n w ++ drop (at + n) before)
-  unfolding last_bytes split_bits
-  put_all out rest p =
-      let z : at + 0 ≡ at = omega arith in
-      let f : take at out ≡ take at before = rw z at p.front in
-      let b : drop at out ≡ last_bytes n w ++ drop (at + n) before = rw z at p.back in
-      sym (take-append-drop at out) ∙ (λ i. f i ++ b i)
+-- where p stands in front, x is put behind it
+put_behind : (p x rest : List ℕ) (at n : ℕ) → length p ≡ at → put_mid at n (p ++ rest) x ≡ (p ++ x) ++ drop n rest
+put_behind p x rest at n h = (λ i. take_at p rest at h i ++ (x ++ drop n (drop_at p rest at h i))) ∙ sym (append_assoc p x (drop n rest))
 
--- where p stands in front of rest, x is put behind p
-behind : (p x rest out next : List ℕ) (at n : ℕ) → length p ≡ at → out ≡ p ++ rest → next ≡ take at out ++ (x ++ drop (at + n) out)
-    → next ≡ (p ++ x) ++ drop n rest
-behind p x rest out next at n h e q =
-    let f : take at out ≡ p = ap (take at) e ∙ take_at p rest at h in
-    let g : drop (at + n) out ≡ drop n rest = ap (drop (at + n)) e ∙ ap (λ k. drop (k + n) (p ++ rest)) (sym h) ∙ drop-append-add p rest n in
-    q ∙ (λ i. f i ++ (x ++ g i)) ∙ sym (append_assoc p x (drop n rest))
+-- four are put one behind the other
+pub put_four : (before a b c d : List ℕ) → length a ≡ 8 → length b ≡ 8 → length c ≡ 8
+    → put_mid 24 4 (put_mid 16 8 (put_mid 8 8 (a ++ drop 8 before) b) c) d ≡ a ++ (b ++ (c ++ (d ++ drop 28 before)))
+put_four before a b c d la lb lc =
+    let l2 : length (a ++ b) ≡ 16 = length-append a b ∙ omega arith in
+    let l3 : length ((a ++ b) ++ c) ≡ 24 = length-append (a ++ b) c ∙ omega arith in
+    let e2 : put_mid 8 8 (a ++ drop 8 before) b ≡ (a ++ b) ++ drop 16 before = put_behind a b (drop 8 before) 8 8 la ∙ ap (λ l. (a ++ b) ++ l) (drop-drop 8 8 before) in
+    let e3 : put_mid 16 8 ((a ++ b) ++ drop 16 before) c ≡ ((a ++ b) ++ c) ++ drop 24 before
+    = put_behind (a ++ b) c (drop 16 before) 16 8 l2 ∙ ap (λ l. ((a ++ b) ++ c) ++ l) (drop-drop 8 16 before) in
+    let e4 : put_mid 24 4 (((a ++ b) ++ c) ++ drop 24 before) d ≡ (((a ++ b) ++ c) ++ d) ++ drop 28 before
+    = put_behind ((a ++ b) ++ c) d (drop 24 before) 24 4 l3 ∙ ap (λ l. (((a ++ b) ++ c) ++ d) ++ l) (drop-drop 4 24 before) in
+    ap (λ l. put_mid 24 4 (put_mid 16 8 l c) d) e2 ∙ ap (λ l. put_mid 24 4 l d) e3 ∙ e4 ∙ simp append_assoc
 
--- four words are put one behind the other
-pub put_four : (before o1 o2 o3 o4 : List ℕ) (a b c d : ℕ) → o1 ≡ take 0 before ++ (last_bytes 8 a ++ drop 8 before)
-    → o2 ≡ take 8 o1 ++ (last_bytes 8 b ++ drop 16 o1) → o3 ≡ take 16 o2 ++ (last_bytes 8 c ++ drop 24 o2) → o4 ≡ take 24 o3 ++ (last_bytes 4 d ++ drop 28 o3)
-    → o4 ≡ last_bytes 8 a ++ (last_bytes 8 b ++ (last_bytes 8 c ++ (last_bytes 4 d ++ drop 28 before)))
-put_four before o1 o2 o3 o4 a b c d q1 q2 q3 q4 =
-    let p2 = last_bytes 8 a ++ last_bytes 8 b in
-    let p3 = p2 ++ last_bytes 8 c in
-    let l1 = bytes_length 8 a in
-    let l2 : length p2 ≡ 16 = length-append (last_bytes 8 a) (last_bytes 8 b) ∙ omega (arith, bytes_length 8 a, bytes_length 8 b) in
-    let l3 : length p3 ≡ 24 = length-append p2 (last_bytes 8 c) ∙ omega (arith, bytes_length 8 c) in
-    let e2 : o2 ≡ p2 ++ drop 16 before = behind (last_bytes 8 a) (last_bytes 8 b) (drop 8 before) o1 o2 8 8 l1 q1 q2 ∙ ap (λ l. p2 ++ l) (drop-drop 8 8 before) in
-    let e3 : o3 ≡ p3 ++ drop 24 before = behind p2 (last_bytes 8 c) (drop 16 before) o2 o3 16 8 l2 e2 q3 ∙ ap (λ l. p3 ++ l) (drop-drop 8 16 before) in
-    let e4 : o4 ≡ (p3 ++ last_bytes 4 d) ++ drop 28 before
-    = behind p3 (last_bytes 4 d) (drop 24 before) o3 o4 24 4 l3 e3 q4 ∙ ap (λ l. (p3 ++ last_bytes 4 d) ++ l) (drop-drop 4 24 before) in
-    e4 ∙ simp append_assoc
+-- a word in front
+front_word : (w l : List ℕ) → w ≡ take 8 l → 8 ≤ length l → from_be_bytes w64 w ≡ number_spelled (take 8 l)
+front_word w l e h = word_spelled w (ap length e ∙ length-take-le 8 l h) ∙ ap number_spelled e
 
--- one byte more is read
-module _ (bs : List ℕ) (at i : ℕ) where
-  pub word_more : at + i < length bs → number_spelled (take (i + 1) (drop at bs)) ≡ number_spelled (take i (drop at bs)) * 256 + get_or bs (at + i) 0
-  word_more h =
-      rw (add-one i, take-suc (drop at bs) i 0 (omega (arith, length-drop at bs)), get_or-drop at bs i 0) (number_snoc (take i (drop at bs)) (get_or bs (at + i) 0))
-
-pub word_room : (w b i : ℕ) → w < 2 ^ (8 * i) → b < 256 → w * 256 + b < 2 ^ (8 * (i + 1))
-word_room w b i hw hb =
-    let e : 2 ^ (8 * (i + 1)) ≡ 2 ^ (8 * i) * 2 ^ 8 = ap (λ n. 2 ^ n) (omega arith) ∙ pow-add 2 (8 * i) 8 in
-    rw e (below_product w (2 ^ (8 * i)) b 256 hw hb)
-
--- and it fits 64 bits where there are at most 8
-pub word_fits : (w b i : ℕ) → i < 8 → w < 2 ^ (8 * i) → b < 256 → w * 256 + b < 2 ^ 64
-word_fits w b i h hw hb =
-    let l : 8 * (i + 1) ≤ 64 = omega arith in
-    let m : 2 ^ (8 * (i + 1)) ≤ 2 ^ 64 = pow_mono l in
-    omega (arith, word_room w b i hw hb)
+-- four pieces that follow one another are the words of the whole
+pub pieces_words : (bs a after_a b after_b c d : List ℕ) → a ≡ take 8 bs → after_a ≡ drop 8 bs → b ≡ take 8 after_a → after_b ≡ drop 8 after_a
+    → c ≡ take 8 after_b → d ≡ drop 8 after_b → length d ≡ 4
+    → AreWords bs (from_be_bytes w64 a) (from_be_bytes w64 b) (from_be_bytes w64 c) (from_be_bytes w32 d)
+pieces_words bs a after_a b after_b c d ea ra eb rb ec ed h =
+    let r2 : after_b ≡ drop 16 bs = rb ∙ ap (drop 8) ra ∙ drop-drop 8 8 bs in
+    let r3 : d ≡ drop 24 bs = ed ∙ ap (drop 8) r2 ∙ drop-drop 8 16 bs in
+    let n : length bs ≡ 28 = omega (arith, ap length r3, length-drop 24 bs) in
+    record {
+      size = n;
+      first = front_word a bs ea (omega arith);
+      second = front_word b (drop 8 bs) (eb ∙ ap (take 8) ra) (omega (arith, length-drop 8 bs));
+      third = front_word c (drop 16 bs) (ec ∙ ap (take 8) r2) (omega (arith, length-drop 16 bs));
+      last = half_spelled d h ∙ ap number_spelled r3;
+    }

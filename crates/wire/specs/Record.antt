@@ -1,15 +1,11 @@
 -- The packet record: its layout, what is refused, and what writing and reading answer.
-use Rattle.std.specs.Prelude.{◌≡◌, Bool, ◌&&◌, List, [], ◌∷◌, ◌++◌, ℕ, eqb, leb, ltb, length, drop, get_or}
+use Rattle.std.specs.Prelude.{◌≡◌, Bool, ◌&&◌, List, [], ◌∷◌, ◌++◌, ℕ, eqb, leb, ltb, length, drop, get_or, Result, Ok, Err}
 use Rattle.sizes.specs.Words.{when◌then◌else◌, one_if}
 use Rattle.sizes.specs.Partition.{sbn, esi}
 use Rattle.sizes.specs.declared.refusal.Refusal.{Refusal}
 use Rattle.sizes.specs.declared.refusal.Refusal.TheVariants as Because
 use Rattle.wire.specs.Packing.{Field, field_widths, join, fields_fit, split_bits, last_bytes, number_spelled}
 use Rattle.wire.specs.declared.record.Record.{Record}
-use Rattle.wire.specs.declared.record.Writing.{Writing}
-use Rattle.wire.specs.declared.record.Writing.TheVariants.{Done, Refused}
-use Rattle.wire.specs.declared.record.Reading.{Reading}
-use Rattle.wire.specs.declared.record.Reading.TheVariants.{Fields, Refused as NoRecord}
 
 abbrev pub in_bits : ℕ → ℕ → Field
 in_bits w v = record { width = w; value = v }
@@ -78,13 +74,13 @@ pub data RecordAnswer : Type 0 where
   fields : Record → RecordAnswer
   refused : Refusal → RecordAnswer
 
-abbrev pub writing_said : Writing → RecordAnswer
-writing_said Done = done
-writing_said Refused = refused Because.Record
+abbrev pub writing_said : Result (Unit {0}) Refusal → RecordAnswer
+writing_said (Ok u) = done
+writing_said (Err why) = refused why
 
-abbrev pub reading_said : Reading → RecordAnswer
-reading_said (Fields r) = fields r
-reading_said NoRecord = refused Because.Record
+abbrev pub reading_said : Result Record Refusal → RecordAnswer
+reading_said (Ok r) = fields r
+reading_said (Err why) = refused why
 
 -- is there room, and can the record be written
 unfoldable pub writable : List ℕ → Record → Bool
@@ -97,7 +93,7 @@ write_answer out r = when writable out r then done else refused Because.Record
 unfoldable pub write_buffer : List ℕ → Record → List ℕ
 write_buffer out r = when writable out r then written r ++ drop record_size out else out
 
-pub record RecordWrites (before : List ℕ) (r : Record) (a : Writing) (after : List ℕ) : Type 0 where
+pub record RecordWrites (before : List ℕ) (r : Record) (a : Result (Unit {0}) Refusal) (after : List ℕ) : Type 0 where
   pub answer : writing_said a ≡ write_answer before r
   pub buffer : after ≡ write_buffer before r
 
@@ -109,5 +105,5 @@ readable bs = eqb (length bs) record_size && eqb (padding (values_in bs)) 0 && g
 unfoldable pub read_answer : List ℕ → RecordAnswer
 read_answer bs = when readable bs then fields (with_values (values_in bs)) else refused Because.Record
 
-pub record RecordReads (bs : List ℕ) (a : Reading) : Type 0 where
+pub record RecordReads (bs : List ℕ) (a : Result Record Refusal) : Type 0 where
   pub answer : reading_said a ≡ read_answer bs

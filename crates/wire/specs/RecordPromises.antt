@@ -1,11 +1,10 @@
 -- What is promised of records: statements only, proved in proofs/RecordPromised.
-use Rattle.std.specs.Prelude.{◌≡◌, true, false, List, ◌++◌, ℕ, ◌^◌, ◌≤◌, ◌<◌, length, take, drop}
+use Rattle.std.specs.Prelude.{◌≡◌, true, false, List, ◌++◌, ℕ, ◌^◌, ◌≤◌, ◌<◌, length, take, drop, Result}
 use Rattle.sizes.specs.Words.{Each}
+use Rattle.sizes.specs.declared.refusal.Refusal.{Refusal}
 use Rattle.sizes.specs.declared.refusal.Refusal.TheVariants as Because
 use Rattle.wire.specs.Record.{done, fields, refused, record_size, good, written, padding, values_in, with_values, writing_said, reading_said, RecordWrites, RecordReads}
 use Rattle.wire.specs.declared.record.Record.{Record}
-use Rattle.wire.specs.declared.record.Writing.{Writing}
-use Rattle.wire.specs.declared.record.Reading.{Reading}
 
 -- each is a byte
 abbrev pub Bytes : List ℕ → Type 0
@@ -36,7 +35,7 @@ pub data ReadFault (bs : List ℕ) : Type 0 where
   bad_fields : Fault (with_values (values_in bs)) → ReadFault bs
 
 -- of one write
-pub record WritePromised (before : List ℕ) (r : Record) (a : Writing) (after : List ℕ) : Type 0 where
+pub record WritePromised (before : List ℕ) (r : Record) (a : Result (Unit {0}) Refusal) (after : List ℕ) : Type 0 where
   -- it is refused for these faults and no other
   pub refused_for : writing_said a ≡ refused Because.Record → WriteFault before r
   pub faults_refused : WriteFault before r → writing_said a ≡ refused Because.Record
@@ -46,16 +45,16 @@ pub record WritePromised (before : List ℕ) (r : Record) (a : Writing) (after :
   pub kept : drop record_size after ≡ drop record_size before
   pub same_length : length after ≡ length before
   -- what is written reads back as the same record
-  pub reads_back : (b : Reading) → writing_said a ≡ done → RecordReads (take record_size after) b → reading_said b ≡ fields r
+  pub reads_back : (b : Result Record Refusal) → writing_said a ≡ done → RecordReads (take record_size after) b → reading_said b ≡ fields r
 
 -- of one read
-pub record ReadPromised (bs : List ℕ) (a : Reading) : Type 0 where
+pub record ReadPromised (bs : List ℕ) (a : Result Record Refusal) : Type 0 where
   -- it is refused for these faults and no other
   pub refused_for : reading_said a ≡ refused Because.Record → ReadFault bs
   pub faults_refused : ReadFault bs → reading_said a ≡ refused Because.Record
   pub else_read : (ReadFault bs → ⊥) → reading_said a ≡ fields (with_values (values_in bs))
   -- an accepted record written again, into any buffer with room, gives the same bytes
-  pub writes_again : (r : Record) (before : List ℕ) (w : Writing) (after : List ℕ) → reading_said a ≡ fields r → record_size ≤ length before
+  pub writes_again : (r : Record) (before : List ℕ) (w : Result (Unit {0}) Refusal) (after : List ℕ) → reading_said a ≡ fields r → record_size ≤ length before
       → RecordWrites before r w after → (writing_said w ≡ done) × (after ≡ bs ++ drop record_size before)
   -- the bytes of a good record, and no others, are accepted
   pub accepted_written : (r : Record) → reading_said a ≡ fields r → (good r ≡ true) × (bs ≡ written r)
@@ -64,5 +63,5 @@ pub record ReadPromised (bs : List ℕ) (a : Reading) : Type 0 where
 -- these hold of every write and of every read of bytes
 abbrev pub RecordPromised : Type 0
 RecordPromised =
-    ((before : List ℕ) (r : Record) (a : Writing) (after : List ℕ) → RecordWrites before r a after → WritePromised before r a after)
-    × ((bs : List ℕ) (a : Reading) → Bytes bs → RecordReads bs a → ReadPromised bs a)
+    ((before : List ℕ) (r : Record) (a : Result (Unit {0}) Refusal) (after : List ℕ) → RecordWrites before r a after → WritePromised before r a after)
+    × ((bs : List ℕ) (a : Result Record Refusal) → Bytes bs → RecordReads bs a → ReadPromised bs a)

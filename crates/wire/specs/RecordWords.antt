@@ -1,8 +1,8 @@
 -- The record as three words of 64 bits and one of 32. A field that two words share is cut in two.
-use Rattle.std.specs.Prelude.{List, [], ◌∷◌, ℕ, ◌+◌, ◌*◌, ◌/◌, ◌%◌, ◌^◌, eqb}
+use Rattle.std.specs.Prelude.{◌≡◌, List, [], ◌∷◌, ℕ, ◌+◌, ◌*◌, ◌/◌, ◌%◌, ◌^◌, eqb, length, take, drop}
 use Rattle.sizes.specs.Words.{one_if}
 use Rattle.sizes.specs.Partition.{sbn, esi}
-use Rattle.wire.specs.Packing.{Field}
+use Rattle.wire.specs.Packing.{Field, number_spelled}
 use Rattle.wire.specs.Record.{in_bits}
 use Rattle.wire.specs.declared.record.Record.{Record}
 
@@ -32,3 +32,11 @@ record_in a b c d = record {
   total = c / 2 ^ 10 % 2 ^ 48;
   symbols = c % 2 ^ 10 * 2 ^ 6 + d / 2 ^ 26 % 2 ^ 6;
 }
+
+-- the words that 28 bytes spell
+pub record AreWords (bs : List ℕ) (a b c d : ℕ) : Type 0 where
+  pub size : length bs ≡ 28
+  pub first : a ≡ number_spelled (take 8 bs)
+  pub second : b ≡ number_spelled (take 8 (drop 8 bs))
+  pub third : c ≡ number_spelled (take 8 (drop 16 bs))
+  pub last : d ≡ number_spelled (drop 24 bs)

@@ -1,10 +1,14 @@
 // The packet record: 28 bytes, fields bit-packed, the most significant first.
-ghost use Rattle.std.specs.Prelude.{◌≡◌, true, ◌++◌, ◌+◌, ◌*◌, ◌^◌, ◌<◌, ◌≤◌, length, take, drop};
-ghost use Rattle.wire.specs.Packing.{join, last_bytes, number_spelled};
+ghost use Rattle.std.specs.Prelude.{◌≡◌, ◌≢◌, true, ◌++◌, ◌≤◌, length, drop, MatchOption};
+ghost use Rattle.wire.specs.Packing.{join, last_bytes};
 ghost use Rattle.wire.specs.Record.{good, well_named, RecordWrites, RecordReads};
-ghost use Rattle.wire.specs.RecordWords.{first_fields, second_fields, third_fields, last_fields, record_in};
+ghost use Rattle.wire.specs.RecordWords.{first_fields, second_fields, third_fields, last_fields, record_in, AreWords};
 
 use sizes::numbers::{Esi, Sbn};
+use sizes::refusal::Refusal;
+
+// A record, in bytes.
+const RECORD_SIZE: usize = 28;
 
 // The largest values of fields of 16, 20 and 48 bits.
 const MOST_16: u32 = 0xFFFF;
@@ -29,78 +33,43 @@ pub struct Record {
     pub symbols: u64,
 }
 
-// Has the record been written?
-#[derive(Clone, Copy)]
-pub enum Writing {
-    Done,
-    Refused,
-}
-
-// The record that stands in the bytes, if any does.
-#[derive(Clone, Copy)]
-pub enum Reading {
-    Fields(Record),
-    Refused,
-}
-
 // Writes a record into the first 28 bytes of out, or nothing.
-pub fn write(out: &mut [u8], r: Record) -> Writing
+pub fn write(out: &mut [u8], r: Record) -> Result<(), Refusal>
     ensures { RecordWrites out.old r result out.new }
 {
-    if out.len() < 28 {
-        return Writing::Refused;
-    }
-    if !is_good(r) {
-        return Writing::Refused;
+    if out.len() < RECORD_SIZE || !is_good(r) {
+        return Err(Refusal::Record);
     }
     put_words(out, first(r), second(r), third(r), last(r));
-    Writing::Done
+    Ok(())
 }
 
 // Reads the record that 28 bytes hold.
-pub fn read(bytes: &[u8]) -> Reading
+pub fn read(bytes: &[u8]) -> Result<Record, Refusal>
     ensures { RecordReads bytes.now result }
 {
-    if bytes.len() != 28 {
-        return Reading::Refused;
-    }
-    let a = word_at(bytes, 0, 8);
-    let b = word_at(bytes, 8, 8);
-    let c = word_at(bytes, 16, 8);
-    let d = word_at(bytes, 24, 4);
+    let (a, b, c, d) = words_in(bytes).ok_or(Refusal::Record)?;
     if d % 0x400_0000 != 0 {
-        return Reading::Refused;
+        return Err(Refusal::Record);
     }
     let r = record_in(a, b, c, d);
     if !is_good(r) {
-        return Reading::Refused;
+        return Err(Refusal::Record);
     }
-    Reading::Fields(r)
+    Ok(r)
 }
 
 // Can the record be written?
 fn is_good(r: Record) -> bool
     ensures { result ≡ good r }
 {
-    if MOST_20 < r.fdt_id {
-        return false;
-    }
-    if MOST_16 < r.block.0 {
-        return false;
-    }
-    if MOST_16 < r.symbol.0 {
-        return false;
-    }
-    if MOST_16_OF_64 < r.length {
-        return false;
-    }
-    if MOST_48 < r.total {
-        return false;
-    }
-    if MOST_16_OF_64 < r.symbols {
-        return false;
-    }
-    is_well_named(r)
+    r.fdt_id <= MOST_20
+        && r.block.0 <= MOST_16
+        && r.symbol.0 <= MOST_16
+        && r.length <= MOST_16_OF_64
+        && r.total <= MOST_48
+        && r.symbols <= MOST_16_OF_64
+        && is_well_named(r)
 }
 
 // Has the FDT number 0, and an object another number and no FDT id?
@@ -108,12 +77,10 @@ fn is_well_named(r: Record) -> bool
     ensures { result ≡ well_named r }
 {
     if r.is_fdt {
-        return r.toi == 0;
+        r.toi == 0
+    } else {
+        r.toi != 0 && r.fdt_id == 0
     }
-    if r.toi == 0 {
-        return false;
-    }
-    r.fdt_id == 0
 }
 
 // The record's bits in words. 0x40 is 2^6, 0x400 is 2^10: each zero is 4 bits.
@@ -144,14 +111,14 @@ fn third(r: Record) -> u64
     (r.length % 0x40) * 0x400_0000_0000_0000 + r.total * 0x400 + r.symbols / 0x40
 }
 
-fn last(r: Record) -> u64
+fn last(r: Record) -> u32
     ensures { result ≡ join (last_fields r) }
 {
-    (r.symbols % 0x40) * 0x400_0000
+    (r.symbols % 0x40) as u32 * 0x400_0000
 }
 
 // The record that the words hold.
-fn record_in(a: u64, b: u64, c: u64, d: u64) -> Record
+fn record_in(a: u64, b: u64, c: u64, d: u32) -> Record
     ensures { result ≡ record_in a b c d }
 {
     let fdt_id = (a / 0x400_0000_0000 % 0x10_0000) as u32;
@@ -159,7 +126,7 @@ fn record_in(a: u64, b: u64, c: u64, d: u64) -> Record
     let block = (b / 0x400_0000 % 0x1_0000) as u32;
     let symbol = (b / 0x400 % 0x1_0000) as u32;
     let length = (b % 0x400) * 0x40 + c / 0x400_0000_0000_0000 % 0x40;
-    let symbols = (c % 0x400) * 0x40 + d / 0x400_0000 % 0x40;
+    let symbols = (c % 0x400) * 0x40 + (d / 0x400_0000) as u64;
     Record {
         is_fdt: a / 0x8000_0000_0000_0000 % 2 == 1,
         close: a / 0x4000_0000_0000_0000 % 2 == 1,
@@ -173,41 +140,29 @@ fn record_in(a: u64, b: u64, c: u64, d: u64) -> Record
     }
 }
 
-// Puts three words and the last half of one at the front of out.
-fn put_words(out: &mut [u8], a: u64, b: u64, c: u64, d: u64)
+// Puts the words at the front of out.
+fn put_words(out: &mut [u8], a: u64, b: u64, c: u64, d: u32)
     requires { 28 ≤ length out.old }
     ensures { out.new ≡ last_bytes 8 a ++ (last_bytes 8 b ++ (last_bytes 8 c ++ (last_bytes 4 d ++ drop 28 out.old))) }
 {
-    put(out, 0, 8, a);
-    put(out, 8, 8, b);
-    put(out, 16, 8, c);
-    put(out, 24, 4, d);
+    out[..8].copy_from_slice(&a.to_be_bytes());
+    out[8..16].copy_from_slice(&b.to_be_bytes());
+    out[16..24].copy_from_slice(&c.to_be_bytes());
+    out[24..28].copy_from_slice(&d.to_be_bytes());
 }
 
-// Puts the last n bytes of w into out at `at`, the most significant first.
-fn put(out: &mut [u8], at: usize, n: usize, w: u64)
-    requires { at + n ≤ length out.old }
-    ensures { out.new ≡ take at out.old ++ (last_bytes n w ++ drop (at + n) out.old) }
+// The words of 28 bytes.
+fn words_in(bytes: &[u8]) -> Option<(u64, u64, u64, u32)>
+    ensures cases { MatchOption result (length bytes.now ≢ 28) (λ w. AreWords bytes.now w.0 w.1 w.2 w.3) }
 {
-    let mut rest = w;
-    let mut i = n;
-    while 0 < i {
-        i -= 1;
-        out[at + i] = (rest % 256) as u8;
-        rest = rest / 256;
-    }
-}
-
-// The number that n bytes at `at` spell.
-fn word_at(bytes: &[u8], at: usize, n: usize) -> u64
-    requires { (at + n ≤ length bytes.now) × (n ≤ 8) }
-    ensures { (result ≡ number_spelled (take n (drop at bytes.now))) × (result < 2 ^ (8 * n)) }
-{
-    let mut w: u64 = 0;
-    let mut i = 0;
-    while i < n {
-        w = w * 256 + bytes[at + i] as u64;
-        i += 1;
-    }
-    w
+    let (a, rest) = bytes.split_first_chunk()?;
+    let (b, rest) = rest.split_first_chunk()?;
+    let (c, rest) = rest.split_first_chunk()?;
+    let d = rest.as_array()?;
+    Some((
+        u64::from_be_bytes(*a),
+        u64::from_be_bytes(*b),
+        u64::from_be_bytes(*c),
+        u32::from_be_bytes(*d),
+    ))
 }

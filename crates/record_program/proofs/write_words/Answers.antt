@@ -4,8 +4,5 @@ use native.Mathlib.Omega.{arith}
 use Rattle.record_program.proofs.NumberLaws.{fitting}
 use Rattle.record_program.proofs.write_words.Goals as goal
 
-pub record_of-requires : goal.record_of-requires
-record_of-requires c = sym c.in_range.ensures ∙ c.if-not-in_range.false
-
 pub overflow_cast-result : goal.overflow_cast-result
 overflow_cast-result c = omega (arith, (fitting _ (sym c.in_range.ensures ∙ c.if-not-in_range.false)).1)

@@ -2,8 +2,8 @@
 use Rattle.std.proofs.Common.{◌-◌, length}
 use Rattle.text_cases.proofs.answer.Given as goal
 
-abbrev pub invariant-loop-from : goal.invariant-loop-from
-invariant-loop-from g l = Unit {0}
+abbrev pub invariant-loop-word : goal.invariant-loop-word
+invariant-loop-word g l = Unit {0}
 
-abbrev pub decreases-loop-from : goal.decreases-loop-from
-decreases-loop-from g l = length l.line - l.from
+abbrev pub decreases-loop-word : goal.decreases-loop-word
+decreases-loop-word g l = length l.words.line.now - l.words.at

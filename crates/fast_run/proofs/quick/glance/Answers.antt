@@ -2,29 +2,29 @@ use native.Mathlib.Omega.{arith}
 use Rattle.fast_run.proofs.Steps.{passes, valid, declines, steps, within, glances}
 use Rattle.fast_run.proofs.quick.glance.Goals as goal
 
-pub glance-g-requires : goal.glance-g-requires
-glance-g-requires c =
-    valid c.args.waiting c.args.now c.args.t c.args.x c.requires _ c.is_due.ensures c.if-is_due.true
+pub returns-then-not-is_due : goal.returns-then-not-is_due
+returns-then-not-is_due c =
+    passes c.args.waiting c.args.at c.args.t.now c.args.x.now c.requires _ c.is_due.ensures c.if-not-is_due.true
 
-pub returns-in_default : goal.returns-in_default
-returns-in_default c =
-    declines c.args.waiting c.args.now c.args.t c.args.x c.requires _ c.is_due.ensures c.if-is_due.true _ c.glance-g.ensures c.in_default.is _ c.no_numbers.ensures
+pub glance-requires : goal.glance-requires
+glance-requires c =
+    valid c.args.waiting c.args.at c.args.t.now c.args.x.now c.requires _ c.is_due.ensures c.if-not-is_due.false
+
+pub returns-in_err-v : goal.returns-in_err-v
+returns-in_err-v c =
+    rw c.from_residual.ensures (declines c.args.waiting c.args.at c.args.t.now c.args.x.now c.requires _ c.is_due.ensures c.if-not-is_due.false _ c.glance.ensures c.in_err-v.was)
 
 pub overflow_add-result : goal.overflow_add-result
 overflow_add-result c =
-    let z = steps c.args.waiting c.args.now c.args.t c.args.x c.requires _ c.is_due.ensures c.if-is_due.true _ c.glance-g.ensures _ c.in-One.is in
+    let z = steps c.args.waiting c.args.at c.args.t.now c.args.x.now c.requires _ c.is_due.ensures c.if-not-is_due.false _ c.glance.ensures _ c.in_ok-v.was in
     let h = z.symbol in
     omega arith
 
-pub overflow_add-result-then-is_due : goal.overflow_add-result-then-is_due
-overflow_add-result-then-is_due c =
-    let z = within c.args.waiting c.args.now c.args.t c.args.x c.requires _ c.is_due.ensures c.if-is_due.true _ c.glance-g.ensures _ c.in-One.is in
+pub overflow_add-result-2 : goal.overflow_add-result-2
+overflow_add-result-2 c =
+    let z = within c.args.waiting c.args.at c.args.t.now c.args.x.now c.requires _ c.is_due.ensures c.if-not-is_due.false _ c.glance.ensures _ c.in_ok-v.was in
     omega arith
-
-pub returns-then-is_due : goal.returns-then-is_due
-returns-then-is_due c =
-    glances c.args.waiting c.args.now c.args.t c.args.x c.requires _ c.is_due.ensures c.if-is_due.true _ c.glance-g.ensures _ c.in-One.is _ c.ticked-after.ensures _ c.run_told.ensures
 
 pub returns : goal.returns
 returns c =
-    passes c.args.waiting c.args.now c.args.t c.args.x c.requires _ c.is_due.ensures c.if-is_due.false _ c.no_numbers-2.ensures
+    glances c.args.waiting c.args.at c.args.t.now c.args.x.now c.requires _ c.is_due.ensures c.if-not-is_due.false _ c.glance.ensures _ c.in_ok-v.was _ c.ticked-after.ensures _ c.from.ensures

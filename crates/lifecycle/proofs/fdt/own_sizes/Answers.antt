@@ -1,10 +1,14 @@
+use mathlib.Core.Path.{◌≡◌, refl, ◌∙◌}
+use Rattle.std.specs.Prelude.{Option, None, Some}
+use Rattle.std.specs.Option.{unwrap_or}
+use Rattle.sizes.specs.declared.partition.Sizes.{Sizes}
 use Rattle.lifecycle.specs.FdtCalls.{own_of}
 use Rattle.lifecycle.proofs.fdt.own_sizes.Goals as goal
 
-pub returns-in-Sizes : goal.returns-in-Sizes
+same : (o : Option Sizes) (z : Sizes) → unwrap_or o z ≡ own_of o z
 unfolding own_of
-returns-in-Sizes c = rw c.in-Sizes.is
+same None z = refl
+same (Some y) z = refl
 
-pub returns-in-SetUp : goal.returns-in-SetUp
-unfolding own_of
-returns-in-SetUp c = rw c.in-SetUp.is
+pub returns : goal.returns
+returns c = c.unwrap_or.ensures ∙ same c.args.own c.args.z

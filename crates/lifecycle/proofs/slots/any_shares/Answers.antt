@@ -1,27 +1,14 @@
-use mathlib.Core.Path.{◌≡◌, sym, ◌∙◌, ap}
-use native.Mathlib.Omega.{arith}
-use borrow.Author.Rules.{rules}
-use lib.ListN.{length}
-use lib.Seq.{take_all}
-use Rattle.sizes.specs.Words.{any}
-use Rattle.sizes.specs.Limits.{object_slots}
-use Rattle.sizes.proofs.Arrays.{any_hit, any_miss, any_end}
-use Rattle.lifecycle.specs.Slots.{no_slot, holds_byte}
+use Rattle.std.proofs.Common.{◌≡◌, ◌∙◌, rules, tests}
+use Rattle.std.specs.List.{list_any}
+use Rattle.std.proofs.lemmas.Iterator.{YieldsList-from_slice}
+use Rattle.std.proofs.lemmas.Iterator.Search.{any_from_yields_List}
+use Rattle.lifecycle.specs.Slots.{holds_byte}
+use Rattle.sizes.proofs.Arrays.{any_is}
 use Rattle.lifecycle.proofs.slots.any_shares.Goals as goal
-
-pub loop-i-init : goal.loop-i-init
-loop-i-init c =
-    let g : length c.args.slots ≡ object_slots = c.well_formed.0.1.0.1 in
-    (omega arith, search rules, ap (any (holds_byte c.args.c)) (sym (take_all object_slots c.args.slots (omega arith))))
-
-pub returns-then-has_byte_of : goal.returns-then-has_byte_of
-returns-then-has_byte_of c =
-    sym (c.loop-i.invariant.2 ∙ any_hit (holds_byte c.args.c) object_slots c.args.slots c.loop-i.invariant.0 c.loop-i.i no_slot (omega arith) (sym c.has_byte_of.ensures ∙ c.if-has_byte_of.true))
-
-pub loop-i-preserved : goal.loop-i-preserved
-loop-i-preserved c =
-    (c.loop-i.invariant.0, search rules, c.loop-i.invariant.2 ∙ any_miss (holds_byte c.args.c) object_slots c.args.slots c.loop-i.invariant.0 c.loop-i.i no_slot (omega arith) (sym c.has_byte_of.ensures ∙ c.if-has_byte_of.false))
 
 pub returns : goal.returns
 returns c =
-    sym (c.loop-i.invariant.2 ∙ any_end (holds_byte c.args.c) object_slots c.args.slots c.loop-i.invariant.0 c.loop-i.i (omega arith))
+    let ok = holds_byte c.args.c in
+    let e : c.any.result ≡ list_any ok c.args.slots.now =
+    any_from_yields_List ok _ _ c.any.result c.any.ensures.ran (YieldsList-from_slice _ c.iter.ensures.rest) (λ x b q k. search (rules, tests)) in
+    e ∙ any_is ok c.args.slots.now

@@ -1,29 +1,13 @@
-use mathlib.Core.Path.{◌≡◌, sym, ◌∙◌, ap}
-use Prim.Native.Nat.{◌≤◌}
-use native.Mathlib.Omega.{arith}
-use borrow.Author.Rules.{rules}
-use lib.ListN.{length}
-use lib.Seq.{take_all}
-use Rattle.sizes.specs.Words.{place}
-use Rattle.sizes.specs.Limits.{object_slots}
-use Rattle.sizes.proofs.Arrays.{place_start, place_hit, place_miss, place_end}
-use Rattle.lifecycle.specs.Slots.{no_slot, is_free}
+use Rattle.std.proofs.Common.{◌≡◌, ◌∙◌, rules, tests}
+use Rattle.std.specs.Prelude.{position}
+use Rattle.std.proofs.lemmas.Iterator.{YieldsList-from_slice}
+use Rattle.std.proofs.lemmas.Iterator.Search.{position_from_yields_List}
+use Rattle.lifecycle.specs.Slots.{is_free}
+use Rattle.sizes.proofs.Arrays.{position_is}
 use Rattle.lifecycle.proofs.slots.free_slot.Goals as goal
-
-pub loop-i-init : goal.loop-i-init
-loop-i-init c =
-    let g : length c.args.slots ≡ object_slots = c.well_formed.0.1.0.1 in
-    let long : object_slots ≤ length c.args.slots = omega arith in
-    (long, search rules, place_start is_free object_slots c.args.slots long ∙ ap (place is_free) (take_all object_slots c.args.slots (omega arith)))
-
-pub returns-then-is_free_slot : goal.returns-then-is_free_slot
-returns-then-is_free_slot c =
-    sym (place_hit is_free object_slots c.args.slots c.loop-i.invariant.0 c.loop-i.i no_slot (omega arith) (sym c.is_free_slot.ensures ∙ c.if-is_free_slot.true)) ∙ c.loop-i.invariant.2
-
-pub loop-i-preserved : goal.loop-i-preserved
-loop-i-preserved c =
-    (c.loop-i.invariant.0, search rules, sym (place_miss is_free object_slots c.args.slots c.loop-i.invariant.0 c.loop-i.i no_slot (omega arith) (sym c.is_free_slot.ensures ∙ c.if-is_free_slot.false)) ∙ c.loop-i.invariant.2)
 
 pub returns : goal.returns
 returns c =
-    sym (place_end is_free object_slots c.args.slots c.loop-i.invariant.0 c.loop-i.i (omega arith)) ∙ c.loop-i.invariant.2
+    let e : c.position.result ≡ position is_free c.args.slots.now =
+    position_from_yields_List is_free _ _ c.position.result c.position.ensures.ran (YieldsList-from_slice _ c.iter.ensures.rest) (λ x b q k. search (rules, tests)) in
+    e ∙ position_is is_free c.args.slots.now

@@ -5,23 +5,21 @@ use Rattle.record_program.proofs.HexLaws.{small}
 use Rattle.record_program.specs.Hex.{pair_value}
 use Rattle.record_program.proofs.hex.pair.Goals as goal
 
-pub returns-in_default : goal.returns-in_default
+pub returns-in_err-high : goal.returns-in_err-high
 unfolding pair_value
-returns-in_default c = rw (sym c.value.ensures ∙ c.in_default.is)
+returns-in_err-high c = rw (c.from_residual.ensures, ← c.value.ensures, c.in_err-high.was)
 
-pub returns-in_default-value : goal.returns-in_default-value
+pub returns-in_err-low : goal.returns-in_err-low
 unfolding pair_value
-returns-in_default-value c =
-    rw (sym c.value.ensures ∙ c.in-Number.is, sym c.value-2.ensures ∙ c.in_default-value.is)
+returns-in_err-low c = rw (c.from_residual-in_err-low.ensures, ← c.value.ensures, c.in_ok-high.was, ← c.value-2.ensures, c.in_err-low.was)
 
 pub overflow_mul-result : goal.overflow_mul-result
-overflow_mul-result c = omega (arith, small _ _ (sym c.value.ensures ∙ c.in-Number.is))
+overflow_mul-result c = omega (arith, small _ _ (sym c.value.ensures ∙ c.in_ok-high.was))
 
 pub overflow_add-result : goal.overflow_add-result
 overflow_add-result c =
-    omega (arith, small _ _ (sym c.value.ensures ∙ c.in-Number.is), small _ _ (sym c.value-2.ensures ∙ c.in-Number-value.is))
+    omega (arith, small _ _ (sym c.value.ensures ∙ c.in_ok-high.was), small _ _ (sym c.value-2.ensures ∙ c.in_ok-low.was))
 
 pub returns : goal.returns
 unfolding pair_value
-returns c =
-    rw (sym c.value.ensures ∙ c.in-Number.is, sym c.value-2.ensures ∙ c.in-Number-value.is)
+returns c = rw (← c.value.ensures, c.in_ok-high.was, ← c.value-2.ensures, c.in_ok-low.was)

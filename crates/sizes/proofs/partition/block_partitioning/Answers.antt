@@ -1,5 +1,5 @@
 -- `sizes::partition::block_partitioning` meets its contract: each return by the tests that led there.
-use Rattle.std.proofs.Common.{◌≡◌, ◌<◌, ℕ, div-mul-le_self, arith, ne_eqb}
+use Rattle.std.proofs.Common.{◌≡◌, ◌<◌, ℕ, arith, ne_eqb}
 use Rattle.sizes.specs.Words.{ceil}
 use Rattle.sizes.proofs.Arithmetic.{ceil_some}
 use Rattle.sizes.specs.Partition.{symbols_of, split, partition_of}
@@ -24,12 +24,6 @@ returns-then-t-eq0 c =
 
 pub nonzero_div-small : goal.nonzero_div-small
 nonzero_div-small c = some_blocks c.div_ceil-t.result c.args.b _ (omega arith) (omega arith) c.div_ceil-n.ensures
-
-pub overflow_mul-result : goal.overflow_mul-result
-overflow_mul-result c = record { fits = omega (arith, div-mul-le_self c.div_ceil-t.result c.div_ceil-n.result) }
-
-pub overflow_sub-result : goal.overflow_sub-result
-overflow_sub-result c = div-mul-le_self _ _
 
 pub returns : goal.returns
 unfolding partition_of symbols_of split

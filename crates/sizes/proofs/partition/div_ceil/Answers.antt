@@ -1,4 +1,4 @@
-use Rattle.std.proofs.Common.{◌/◌, ◌<◌, sym, div-add-mod', le-mul_of_pos_right, arith, rules}
+use Rattle.std.proofs.Common.{sym, rules}
 use native.Mathlib.Nat.{div-zero}
 use Rattle.sizes.specs.Words.{ceil}
 use Rattle.sizes.proofs.Arithmetic.{ceil_exact, ceil_more}
@@ -10,15 +10,6 @@ returns-then-b-eq0 c = rw c.if-b-eq0.true (sym (div-zero _))
 
 pub returns-then-a-b-eq0 : goal.returns-then-a-b-eq0
 returns-then-a-b-eq0 c = sym (ceil_exact _ _ (search rules) c.if-a-b-eq0.true)
-
-pub overflow_add-result : goal.overflow_add-result
-overflow_add-result c =
-    let a = c.args.a in
-    let b = c.args.b in
-    let h = div-add-mod' a b in
-    let m = le-mul_of_pos_right (a / b) (let s : 0 < b = search rules in s) in
-    let r = c.if-a-b-eq0.false in
-    omega arith
 
 pub returns : goal.returns
 returns c = sym (ceil_more _ _ (search rules) c.if-a-b-eq0.false)

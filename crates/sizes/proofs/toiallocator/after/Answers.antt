@@ -5,4 +5,4 @@ use Rattle.sizes.proofs.toiallocator.after.Goals as goal
 
 pub returns : goal.returns
 unfolding after cut_to
-returns c = c.nonzero.ensures ∙ ap skip_zero (c.to_max_length.ensures ∙ rw c.wrapping_add_u64-up.ensures.value (cut_64 c.args.width (c.args.n + 1) c.requires))
+returns c = c.nonzero.ensures ∙ ap skip_zero (c.to_max_length.ensures ∙ cut_64 c.args.width (c.args.n + 1) c.requires)

@@ -1,19 +1,26 @@
--- `text::bytes::pass` meets its contract. The invariant: the run that is looked for ends where the run from i on ends.
-use mathlib.Core.Path.{refl, sym, ◌∙◌}
+-- `text::bytes::pass` meets its contract: the run from `from` on ends at the first place behind it that fails the test.
+use mathlib.Core.Path.{sym, ap, ◌∙◌}
+use mathlib.Core.Bool.{not}
+use Prim.Native.Nat.{◌+◌, ◌-◌}
 use native.Mathlib.Omega.{arith}
-use Rattle.text.proofs.Lists.{pass_more, pass_stop, pass_end}
+use borrow.Author.Rules.{rules}
+use borrow.Author.Tests.{tests}
+use lib.ListN.{length, take, drop}
+use Rattle.std.proofs.lemmas.Iterator.{YieldsList-from_slice}
+use Rattle.std.proofs.lemmas.Iterator.Search.{position_from_yields_List}
+use Rattle.std.proofs.lemmas.List.{take_rest}
+use Rattle.text.specs.Bytes.{member, run_length, pass}
+use Rattle.text.proofs.Lists.{pass_end, run_found}
 use Rattle.text.proofs.bytes.pass.Goals as goal
 
-pub loop-i-init : goal.loop-i-init
-loop-i-init c = refl
-
-pub returns-then-not-is_member : goal.returns-then-not-is_member
-returns-then-not-is_member c =
-    sym (c.loop-i.invariant ∙ pass_stop _ _ c.loop-i.i (omega arith) (sym c.is_member.ensures ∙ c.if-not-is_member.true))
-
-pub loop-i-preserved : goal.loop-i-preserved
-loop-i-preserved c =
-    c.loop-i.invariant ∙ pass_more _ _ c.loop-i.i (omega arith) (sym c.is_member.ensures ∙ c.if-not-is_member.false)
+pub returns-then-s-from : goal.returns-then-s-from
+returns-then-s-from c = sym (pass_end _ _ _ (omega arith))
 
 pub returns : goal.returns
-returns c = sym (c.loop-i.invariant ∙ pass_end _ _ c.loop-i.i (omega arith))
+unfolding pass
+returns c =
+    let s = c.args.s.now in
+    let rest = take (length s - c.args.from) (drop c.args.from s) in
+    let p = member c.args.c in
+    let found = position_from_yields_List (λ b. not (p b)) _ _ c.position-run.result c.position-run.ensures.ran (YieldsList-from_slice rest cc) (λ x b q k. search (rules, tests)) in
+    ap (λ n. c.args.from + n) (c.unwrap_or.ensures ∙ run_found p rest c.position-run.result found ∙ ap (run_length p) (take_rest s c.args.from))

@@ -1,12 +1,14 @@
--- `text::line::take_line` meets its contract: where next..to is no part of the buffer nothing is pending.
-use borrow.Author.Rules.{rules}
-use Rattle.text.proofs.Lists.{part_none, part_turned, part_past}
+-- `text::line::take_line` meets its contract.
+use native.Mathlib.Omega.{arith}
+use Rattle.text.proofs.LineLaws.{line_taken, none_taken}
 use Rattle.text.proofs.line.take_line.Goals as goal
+use Rattle.text.proofs.line.take_line.Goals.{then-end-at, else-end-at}
 
-pub returns-then-to-from : goal.returns-then-to-from
-returns-then-to-from g c =
-    rw (part_turned c.args.was.next c.args.was.to c.args.buf.now (search rules)) (rw part_none at c.take_from.ensures)
+pub returns-then-start-at : goal.returns-then-start-at
+returns-then-start-at g c = none_taken _ _ _ _ _ _ c.read_line-end.ensures c.if-start-at.true
 
-pub returns-then-buf-to : goal.returns-then-buf-to
-returns-then-buf-to g c =
-    rw (part_past c.args.was.next c.args.was.to c.args.buf.now (search rules)) (rw part_none at c.take_from-then-buf-to.ensures)
+pub returns : goal.returns
+returns g c =
+    line_taken _ _ _ _ _ _ c.read_line-end.ensures c.if-start-at.false c.if-end-at.at
+    (λ h. elim c.if-end-at.branch [ then-end-at w ↦ w.at-is | else-end-at w ↦ absurd (omega (arith, w.if-end-at.false)) ])
+    (λ h. elim c.if-end-at.branch [ then-end-at w ↦ absurd (omega (arith, w.if-end-at.true)) | else-end-at w ↦ w.at-is ])

@@ -1,7 +1,7 @@
 -- `text::word::next_word` meets its contract.
 use mathlib.Core.Path.{sym}
 use Rattle.text.specs.Bytes.{member}
-use Rattle.text.proofs.Words.{word_none, word_some, next_word}
+use Rattle.text.proofs.WordLaws.{word_none, word_some, next_word}
 use Rattle.text.proofs.word.next_word.Goals as goal
 
 pub returns-then-s-start : goal.returns-then-s-start

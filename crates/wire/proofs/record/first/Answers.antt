@@ -3,15 +3,6 @@ use native.Mathlib.Omega.{arith}
 use Rattle.wire.proofs.RecordLaws.{good_fit, flag_below, byte_flag, first_sum}
 use Rattle.wire.proofs.record.first.Goals as goal
 
-pub overflow_mul-result : goal.overflow_mul-result
-overflow_mul-result c = omega (arith, byte_flag c.args.r.is_fdt, flag_below c.args.r.is_fdt)
-
-pub overflow_mul-result-2 : goal.overflow_mul-result-2
-overflow_mul-result-2 c = omega (arith, byte_flag c.args.r.close, flag_below c.args.r.close)
-
-pub overflow_add-result : goal.overflow_add-result
-overflow_add-result c = omega (arith, byte_flag c.args.r.is_fdt, flag_below c.args.r.is_fdt, byte_flag c.args.r.close, flag_below c.args.r.close)
-
 pub overflow_mul-result-3 : goal.overflow_mul-result-3
 overflow_mul-result-3 c = let g = good_fit _ c.requires in omega arith
 

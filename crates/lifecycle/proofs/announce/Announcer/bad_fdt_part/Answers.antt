@@ -4,8 +4,8 @@ use Rattle.lifecycle.proofs.announce.Announcer.bad_fdt_part.Goals as goal
 
 pub returns-then-ends_past : goal.returns-then-ends_past
 unfolding bad_fdt_of
-returns-then-ends_past c = rw (sym c.ends_past.ensures ∙ c.if-ends_past.true)
+returns-then-ends_past c = rw (sym c.ends_past.ensures ∙ c.if-ends_past.true) c.if-ends_past.true
 
-pub returns : goal.returns
+pub returns-else-ends_past : goal.returns-else-ends_past
 unfolding bad_fdt_of
-returns c = rw (c.shares_fdt.ensures, sym c.ends_past.ensures ∙ c.if-ends_past.false)
+returns-else-ends_past c = rw (c.shares_fdt.ensures, sym c.ends_past.ensures ∙ c.if-ends_past.false)

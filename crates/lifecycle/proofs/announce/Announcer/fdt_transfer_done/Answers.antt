@@ -1,11 +1,10 @@
-use borrow.Author.Tests.{not-true, not-false}
 use Rattle.lifecycle.specs.Announce.{current_done}
 use Rattle.lifecycle.proofs.announce.Announcer.fdt_transfer_done.Goals as goal
 
-pub returns-then-not-self : goal.returns-then-not-self
+pub returns-then-self : goal.returns-then-self
 unfolding current_done
-returns-then-not-self c = rw (not-true c.args.self.has_current c.if-not-self.true)
+returns-then-self c = rw (c.end.ensures, c.if-self.true)
 
-pub returns : goal.returns
+pub returns-else-self : goal.returns-else-self
 unfolding current_done
-returns c = rw (c.done-self.ensures, not-false c.args.self.has_current c.if-not-self.false)
+returns-else-self c = rw c.if-self.false

@@ -1,13 +1,14 @@
-use mathlib.Core.Path.{sym, ap}
-use Rattle.lifecycle.specs.FdtCalls.{is_added_of}
+use mathlib.Core.Path.{◌≡◌, refl, ◌∙◌, ap}
+use Rattle.std.specs.Prelude.{Option, None, Some}
+use Rattle.std.specs.Option.{is_some}
 use Rattle.sizes.specs.Words.{given}
-use Rattle.lifecycle.proofs.FdtLaws.{said_some, said_none}
+use Rattle.lifecycle.specs.FdtCalls.{is_added_of}
 use Rattle.lifecycle.proofs.fdt.Fdt.is_added.Goals as goal
 
-pub returns-in_default : goal.returns-in_default
-unfolding is_added_of
-returns-in_default c = sym (ap given (said_none c.listed_slot.ensures c.in_default.is))
+same : {A : Type 0} (o : Option A) → is_some o ≡ given o
+same None = refl
+same (Some a) = refl
 
 pub returns : goal.returns
 unfolding is_added_of
-returns c = sym (ap given (said_some c.listed_slot.ensures c.in-At.is))
+returns c = c.is_some.ensures ∙ same c.listed_slot.result ∙ ap given c.listed_slot.ensures

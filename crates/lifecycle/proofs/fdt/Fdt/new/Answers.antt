@@ -3,4 +3,4 @@ use Rattle.lifecycle.proofs.fdt.Fdt.new.Goals as goal
 
 pub returns : goal.returns
 unfolding opening_fdt
-returns c = rw (c.new-announcer.ensures, c.no_slot-none.ensures)
+returns c = rw (c.new.ensures, c.no_slot.ensures)

@@ -1,30 +1,29 @@
+use mathlib.Core.Path.{sym, ◌∙◌}
 use borrow.Author.Tests.{le-leb, lt-leb, eq-eqb, ne_eqb}
-use Rattle.lifecycle.specs.FdtCalls.{publish_of}
-use Rattle.lifecycle.proofs.PublishLaws.{queued_by}
+use Rattle.std.proofs.lemmas.Result.{err_from_is_err_and}
+use Rattle.lifecycle.proofs.PublishLaws.{queued_by, publish_bad, publish_good}
 use Rattle.lifecycle.proofs.fdt.Fdt.publish.Goals as goal
 
-pub returns-then-are_bad_blocks : goal.returns-then-are_bad_blocks
-unfolding publish_of
-returns-then-are_bad_blocks c = rw (← c.are_bad_blocks.ensures, c.if-are_bad_blocks.true)
-
-pub bad_fdt_part-requires : goal.bad_fdt_part-requires
-bad_fdt_part-requires c = c.requires.fdts
-
-pub returns-then-bad_fdt_part : goal.returns-then-bad_fdt_part
-unfolding publish_of
-returns-then-bad_fdt_part c = rw (← c.are_bad_blocks.ensures, c.if-are_bad_blocks.false, ← c.bad_fdt_part.ensures, c.if-bad_fdt_part.true)
+pub returns-in_err-test_draft : goal.returns-in_err-test_draft
+returns-in_err-test_draft c =
+    let r = err_from_is_err_and c.from_residual.result c.from_residual.ensures.1 in
+    rw (r.1, r.2) (publish_bad c.args.now c.args.c c.args.self.now _ (sym c.in_err-test_draft.ensures))
 
 pub returns-then-c-eq0 : goal.returns-then-c-eq0
-unfolding publish_of
-returns-then-c-eq0 c = rw (← c.are_bad_blocks.ensures, c.if-are_bad_blocks.false, ← c.bad_fdt_part.ensures, c.if-bad_fdt_part.false, eq-eqb _ _ c.if-c-eq0.true)
+returns-then-c-eq0 c = publish_good c.args.now c.args.c c.args.self.now (sym c.in_ok-test_draft.ensures) ∙ rw (eq-eqb _ _ c.if-c-eq0.true)
 
 pub returns-then-self-ge-WAITING_FDTS : goal.returns-then-self-ge-WAITING_FDTS
-unfolding publish_of
-returns-then-self-ge-WAITING_FDTS c = rw (← c.are_bad_blocks.ensures, c.if-are_bad_blocks.false, ← c.bad_fdt_part.ensures, c.if-bad_fdt_part.false, ne_eqb _ _ c.if-c-eq0.false, le-leb _ _ c.if-self-ge-WAITING_FDTS.true)
-
-pub published-queued-requires : goal.published-queued-requires
-published-queued-requires c = c.requires.fdts
+returns-then-self-ge-WAITING_FDTS c =
+    publish_good c.args.now c.args.c c.args.self.now (sym c.in_ok-test_draft.ensures)
+    ∙ rw (ne_eqb _ _ c.if-c-eq0.false, le-leb _ _ c.if-self-ge-WAITING_FDTS.true)
 
 pub returns : goal.returns
-unfolding publish_of
-returns c = rw (← c.are_bad_blocks.ensures, c.if-are_bad_blocks.false, ← c.bad_fdt_part.ensures, c.if-bad_fdt_part.false, ne_eqb _ _ c.if-c-eq0.false, lt-leb _ _ c.if-self-ge-WAITING_FDTS.false, c.announced-self.ensures, c.published-queued.ensures, queued_by c.args.now c.args.c c.args.self.announcer c.if-self-ge-WAITING_FDTS.false)
+returns c =
+    publish_good c.args.now c.args.c c.args.self.now (sym c.in_ok-test_draft.ensures)
+    ∙ rw (
+      ne_eqb _ _ c.if-c-eq0.false,
+      lt-leb _ _ c.if-self-ge-WAITING_FDTS.false,
+      c.mark_published.ensures,
+      c.publish.ensures,
+      queued_by c.args.now c.args.c c.args.self.now.announcer c.if-self-ge-WAITING_FDTS.false,
+    )

@@ -3,4 +3,4 @@ use Rattle.lifecycle.proofs.fdt.Fdt.put.Goals as goal
 
 pub returns : goal.returns
 unfolding put_of
-returns c = rw c.new-file.ensures
+returns c = rw c.new.ensures

@@ -1,10 +1,10 @@
-use Rattle.sender.proofs.EncoderLaws.{missing}
-use Rattle.sender.specs.EncoderCalls.{ValidEncoder, filled_of}
 use mathlib.Core.Path.{◌≡◌}
+use Rattle.sender.specs.EncoderCalls.{ValidEncoder, filled_of}
+use Rattle.sender.proofs.EncoderLaws.{missing}
 use Rattle.sender.proofs.blockencoder.BlockEncoder.read_window.Given as goal
 
-abbrev pub invariant-loop-x : goal.invariant-loop-x
-invariant-loop-x l = ValidEncoder l.x × (filled_of l.x ≡ filled_of l.initial.x)
+abbrev pub invariant-loop-self : goal.invariant-loop-self
+invariant-loop-self l = record { valid : ValidEncoder l.self; same : filled_of l.self ≡ filled_of l.initial.self }
 
-abbrev pub decreases-loop-x : goal.decreases-loop-x
-decreases-loop-x l = missing l.x
+abbrev pub decreases-loop-self : goal.decreases-loop-self
+decreases-loop-self l = missing l.self

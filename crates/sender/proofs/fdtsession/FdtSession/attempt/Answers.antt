@@ -1,41 +1,33 @@
 use mathlib.Core.Bool.{◌||◌}
-use Rattle.lifecycle.specs.FdtCalls.{next_fdt_of}
-use Rattle.sender.specs.FdtSessionCalls.{FdtRuns, fdt_sent_of}
-use Rattle.sender.proofs.FdtSessionLaws.{attempted_busy, attempted_left, attempted_begun, left_tries, begun_tries}
-use mathlib.Core.Path.{sym, ◌∙◌, ap, subst}
+use mathlib.Core.Path.{◌≡◌, ◌∙◌}
+use Rattle.lifecycle.specs.FdtCalls.{NextFdt}
+use Rattle.sender.proofs.FdtSessionLaws.{next_session, attempted_busy, attempted_next, next_tries}
 use Rattle.sender.proofs.fdtsession.FdtSession.attempt.Goals as goal
+use Rattle.sender.proofs.fdtsession.FdtSession.attempt.Goals.{then-next, else-next}
 
 pub returns-then-self : goal.returns-then-self
-returns-then-self c =
-    c.send.ensures ∙ attempted_busy c.args.width c.args.now c.args.draft c.args.taken c.args.fdt c.args.self c.if-self.true
+returns-then-self c = attempted_busy c.args.width c.args.now c.args.draft c.args.taken c.args.fdt.now c.args.self.now c.if-self.true ∙ c.send-answer.ensures c.args.taken
 
-pub send-requires-then-n : goal.send-requires-then-n
-send-requires-then-n c =
-    let n = c.get_next_fdt_transfer-n in
-    let q = n.ensures ∙ ap (λ d. next_fdt_of c.args.now d c.args.fdt) c.left_draft.ensures in
-    let t = begun_tries c.args.width c.args.now c.args.draft c.args.taken c.args.fdt c.args.self c.requires n.result q c.if-n.true in
-    subst (FdtRuns n.result.fdt) (sym c.begin-self.ensures) (record { valid = t.holds.valid; busy = t.busy })
-
-pub returns-then-n : goal.returns-then-n
-returns-then-n c =
-    let n = c.get_next_fdt_transfer-n in
-    let q = n.ensures ∙ ap (λ d. next_fdt_of c.args.now d c.args.fdt) c.left_draft.ensures in
-    c.send-then-n.ensures
-    ∙ ap (λ b. fdt_sent_of c.args.now b n.result.fdt c.begin-self.result) c.either-told.ensures
-    ∙ ap (fdt_sent_of c.args.now (c.args.taken || n.result.taken) n.result.fdt) c.begin-self.ensures
-    ∙ attempted_begun c.args.width c.args.now c.args.draft c.args.taken c.args.fdt c.args.self c.if-self.false n.result q c.if-n.true
-
-pub send-requires-2 : goal.send-requires-2
-send-requires-2 c =
-    let n = c.get_next_fdt_transfer-n in
-    let q = n.ensures ∙ ap (λ d. next_fdt_of c.args.now d c.args.fdt) c.left_draft.ensures in
-    let t = left_tries c.args.width c.args.now c.args.draft c.args.taken c.args.fdt c.args.self c.requires n.result q in
+pub send-answer-requires-2 : goal.send-answer-requires-2
+send-answer-requires-2 c =
+    let n : NextFdt = record { taken = c.get_next_fdt_transfer-next.result.taken; starts = c.get_next_fdt_transfer-next.result.starts; fdt = c.get_next_fdt_transfer-next.new.self } in
+    let y : c.if-next.self ≡ next_session c.args.width c.args.now c.args.draft c.args.taken c.args.fdt.now c.args.self.now n =
+    elim c.if-next.branch [ then-next w ↦ w.self-is ∙ rw w.if-next.true w.begin.ensures | else-next w ↦ w.self-is ∙ rw w.if-next.false ] in
+    let t = next_tries c.args.width c.args.now c.args.draft c.args.taken c.args.fdt.now c.args.self.now c.requires n (rw c.left_draft.ensures at c.get_next_fdt_transfer-next.ensures) c.if-next.self y in
     record { valid = t.holds.valid; busy = t.busy }
 
-pub returns : goal.returns
-returns c =
-    let n = c.get_next_fdt_transfer-n in
-    let q = n.ensures ∙ ap (λ d. next_fdt_of c.args.now d c.args.fdt) c.left_draft.ensures in
-    c.send-2.ensures
-    ∙ ap (λ b. fdt_sent_of c.args.now b n.result.fdt c.args.self) c.either-told.ensures
-    ∙ attempted_left c.args.width c.args.now c.args.draft c.args.taken c.args.fdt c.args.self c.if-self.false n.result q c.if-n.false
+pub returns-then-taken : goal.returns-then-taken
+returns-then-taken c =
+    let n : NextFdt = record { taken = c.get_next_fdt_transfer-next.result.taken; starts = c.get_next_fdt_transfer-next.result.starts; fdt = c.get_next_fdt_transfer-next.new.self } in
+    let y : c.if-next.self ≡ next_session c.args.width c.args.now c.args.draft c.args.taken c.args.fdt.now c.args.self.now n =
+    elim c.if-next.branch [ then-next w ↦ w.self-is ∙ rw w.if-next.true w.begin.ensures | else-next w ↦ w.self-is ∙ rw w.if-next.false ] in
+    attempted_next c.args.width c.args.now c.args.draft c.args.taken c.args.fdt.now c.args.self.now c.if-self.false n (rw c.left_draft.ensures at c.get_next_fdt_transfer-next.ensures) c.if-next.self y
+    ∙ c.send-answer-2.ensures (c.args.taken || n.taken) ∙ rw c.if-taken.true
+
+pub returns-else-taken : goal.returns-else-taken
+returns-else-taken c =
+    let n : NextFdt = record { taken = c.get_next_fdt_transfer-next.result.taken; starts = c.get_next_fdt_transfer-next.result.starts; fdt = c.get_next_fdt_transfer-next.new.self } in
+    let y : c.if-next.self ≡ next_session c.args.width c.args.now c.args.draft c.args.taken c.args.fdt.now c.args.self.now n =
+    elim c.if-next.branch [ then-next w ↦ w.self-is ∙ rw w.if-next.true w.begin.ensures | else-next w ↦ w.self-is ∙ rw w.if-next.false ] in
+    attempted_next c.args.width c.args.now c.args.draft c.args.taken c.args.fdt.now c.args.self.now c.if-self.false n (rw c.left_draft.ensures at c.get_next_fdt_transfer-next.ensures) c.if-next.self y
+    ∙ c.send-answer-2.ensures (c.args.taken || n.taken) ∙ rw c.if-taken.false

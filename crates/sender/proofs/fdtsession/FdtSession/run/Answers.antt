@@ -1,18 +1,19 @@
-use Rattle.sender.proofs.FdtSessionLaws.{round_tries, ran_over, ran_once}
+use mathlib.Core.Path.{◌≡◌, refl}
+use Rattle.sender.specs.FdtSessionCalls.{FdtTurn, fdt_again_by, fdt_ran_of}
+use Rattle.sender.specs.declared.sendersession.Outcome.{Outcome}
+use Rattle.sender.proofs.SessionLaws.{not_over}
+use Rattle.sender.proofs.FdtSessionLaws.{attempted_tries}
 use Rattle.sender.proofs.fdtsession.FdtSession.run.Goals as goal
 
 pub attempt-requires : goal.attempt-requires
-attempt-requires c =
-    let a = c.attempt-a in
-    round_tries c.args.width c.args.now c.args.draft c.args.fdt c.args.self c.requires a.result a.ensures
+attempt-requires c = attempted_tries c.args.width c.args.now c.args.draft _ c.args.fdt.now c.args.self.now c.requires _ c.attempt-first.ensures
 
 pub returns-in-Over : goal.returns-in-Over
-returns-in-Over c =
-    let a = c.attempt-a in
-    ran_over c.args.width c.args.now c.args.draft c.args.fdt c.args.self a.result a.ensures c.in-Over.is c.attempt.result c.attempt.ensures
+unfolding fdt_ran_of
+returns-in-Over c = rw (c.attempt-first.ensures, c.in-Over.is) c.attempt.ensures
 
 pub returns : goal.returns
+unfolding fdt_ran_of
 returns c =
-    let a = c.attempt-a in
-    ran_once c.args.width c.args.now c.args.draft c.args.fdt c.args.self a.result a.ensures
-    c.in_default.not-Over
+    let r : FdtTurn = record { taken = c.attempt-first.result.taken; answer = c.attempt-first.result.answer; fdt = c.attempt-first.new.fdt; session = c.attempt-first.new.self } in
+    rw c.attempt-first.ensures (not_over (λ (z : Outcome). fdt_again_by c.args.width c.args.now c.args.draft r z ≡ r) r.answer c.in_default.not-Over refl (λ y. refl))

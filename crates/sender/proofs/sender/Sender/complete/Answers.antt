@@ -4,4 +4,4 @@ use mathlib.Core.Path.{sym, ap, subst}
 use Rattle.sender.proofs.sender.Sender.complete.Goals as goal
 
 pub returns : goal.returns
-returns c = subst (Completes c.args.self) (sym (ap (with_list c.args.self) c.set_complete-self.ensures)) (completes c.args.self c.requires)
+returns c = let s = c.args.self.now in subst (Completes s) (sym (ap (with_list s) c.set_complete.ensures)) (completes s c.requires)

@@ -4,4 +4,4 @@ use mathlib.Core.Path.{sym, subst}
 use Rattle.sender.proofs.sender.Sender.listed.Goals as goal
 
 pub returns : goal.returns
-returns c = subst (Lists c.args.toi c.args.self) (sym c.is_added.ensures) (lists c.args.self c.requires c.args.toi)
+returns c = let s = c.args.self.now in subst (Lists c.args.toi s) (sym c.is_added.ensures) (lists s c.requires c.args.toi)

@@ -3,4 +3,4 @@ use Rattle.sender.proofs.sendersession.SenderSession.begin.Goals as goal
 
 pub returns : goal.returns
 unfolding begun_of
-returns c = rw (c.new.ensures, c.is_last_transfer-closable.ensures, c.pace_from-pace.ensures)
+returns c = rw (c.new.ensures, c.is_last_transfer.ensures, c.pace_from.ensures)

@@ -1,26 +1,31 @@
-use Rattle.std.proofs.Common.{◌≤◌, length, sym, ◌∙◌, arith, rules}
-use Rattle.sizes.specs.Allocator.{no_entry, entry_is}
-use Rattle.sizes.proofs.Arrays.{place_start, place_hit, place_miss, place_end}
+use Rattle.std.proofs.Common.{◌≡◌, ℕ, Bool, true, false, not, ◌&&◌, eqb, refl, ap, ◌∙◌, rules, tests}
+use Rattle.std.specs.Bool.{beq}
+use Rattle.sizes.specs.declared.toiallocator.Entry.{Entry}
+use Rattle.std.specs.Prelude.{position}
+use Rattle.std.proofs.lemmas.Iterator.{YieldsList-from_slice}
+use Rattle.std.proofs.lemmas.Iterator.Search.{position_from_yields_List}
+use Rattle.sizes.specs.Allocator.{noted, entry_is}
+use Rattle.sizes.proofs.Arrays.{position_is}
 use Rattle.sizes.proofs.toiallocator.ToiAllocator.find.Goals as goal
 
-pub loop-i-init : goal.loop-i-init
-loop-i-init c =
-    let s = c.requires in
-    let a = c.args.self in
-    let long : a.entered ≤ length a.entries = (let g = s.sized in let r = s.room in omega arith) in
-    (long, search rules, place_start (entry_is c.args.toi c.args.loose) a.entered a.entries long)
-
-pub returns-then-is_entry : goal.returns-then-is_entry
-returns-then-is_entry c =
-    let a = c.args.self in
-    sym (place_hit (entry_is c.args.toi c.args.loose) a.entered a.entries c.loop-i.invariant.0 c.loop-i.i no_entry (omega arith) (sym c.is_entry.ensures ∙ c.if-is_entry.true)) ∙ c.loop-i.invariant.2
-
-pub loop-i-preserved : goal.loop-i-preserved
-loop-i-preserved c =
-    let a = c.args.self in
-    (c.loop-i.invariant.0, search rules, sym (place_miss (entry_is c.args.toi c.args.loose) a.entered a.entries c.loop-i.invariant.0 c.loop-i.i no_entry (omega arith) (sym c.is_entry.ensures ∙ c.if-is_entry.false)) ∙ c.loop-i.invariant.2)
+-- the entry sought, by both of its fields
+same_entry : (e : Entry) (t : ℕ) (flag : Bool) → (eqb e.toi t && beq e.loose flag) ≡ entry_is t flag e
+unfolding entry_is
+same_entry e t true = ap (λ b. eqb e.toi t && b) (loose_is e.loose)
+  where
+    loose_is : (b : Bool) → beq b true ≡ b
+    loose_is true = refl
+    loose_is false = refl
+same_entry e t false = ap (λ b. eqb e.toi t && b) (bound_is e.loose)
+  where
+    bound_is : (b : Bool) → beq b false ≡ not b
+    bound_is true = refl
+    bound_is false = refl
 
 pub returns : goal.returns
+unfolding entry_is
 returns c =
-    let a = c.args.self in
-    sym (place_end (entry_is c.args.toi c.args.loose) a.entered a.entries c.loop-i.invariant.0 c.loop-i.i (omega arith)) ∙ c.loop-i.invariant.2
+    let l = noted c.args.self.now in
+    let e : c.position.result ≡ position (entry_is c.args.toi c.args.loose) l =
+    position_from_yields_List (entry_is c.args.toi c.args.loose) _ _ c.position.result c.position.ensures.ran (YieldsList-from_slice l cc) (λ x b q k. (search (rules, tests), (let w : b ≡ (eqb x.now.toi c.args.toi && beq x.now.loose c.args.loose) = search (rules, tests) in w ∙ same_entry x.now c.args.toi c.args.loose))) in
+    e ∙ position_is _ l

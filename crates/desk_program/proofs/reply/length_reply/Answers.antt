@@ -1,8 +1,0 @@
--- `desk_program::reply::length_reply` meets its contract.
-use Rattle.desk_program.proofs.reply.length_reply.Goals as goal
-
-pub returns-in-Bytes : goal.returns-in-Bytes
-returns-in-Bytes c = rw c.in-Bytes.is
-
-pub returns-in-Nothing : goal.returns-in-Nothing
-returns-in-Nothing c = rw c.in-Nothing.is

@@ -1,8 +1,0 @@
--- `desk_program::reply::publication_reply` meets its contract.
-use Rattle.desk_program.proofs.reply.publication_reply.Goals as goal
-
-pub returns-in-Done : goal.returns-in-Done
-returns-in-Done c = rw c.in-Done.is
-
-pub returns-in-Refused : goal.returns-in-Refused
-returns-in-Refused c = rw c.in-Refused.is

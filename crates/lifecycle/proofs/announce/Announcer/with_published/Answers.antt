@@ -1,6 +1,0 @@
-use Rattle.lifecycle.specs.Announce.{queued_of}
-use Rattle.lifecycle.proofs.announce.Announcer.with_published.Goals as goal
-
-pub returns : goal.returns
-unfolding queued_of
-returns c = rw c.new.ensures

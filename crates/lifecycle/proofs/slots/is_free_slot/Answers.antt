@@ -1,7 +1,0 @@
-use mathlib.Core.Path.{refl}
-use Rattle.lifecycle.specs.Slots.{is_free}
-use Rattle.lifecycle.proofs.slots.is_free_slot.Goals as goal
-
-pub returns : goal.returns
-unfolding is_free
-returns c = refl

@@ -1,6 +1,0 @@
-use Rattle.sender.specs.EncoderCalls.{new_of}
-use Rattle.sender.proofs.blockencoder.BlockEncoder.new.Goals as goal
-
-pub returns : goal.returns
-unfolding new_of
-returns c = rw (c.no_open-none.ensures, c.block_partitioning-partition.ensures)

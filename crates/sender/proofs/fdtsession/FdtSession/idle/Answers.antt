@@ -1,4 +1,0 @@
-use Rattle.sender.proofs.fdtsession.FdtSession.idle.Goals as goal
-
-pub returns : goal.returns
-returns c = rw c.no_encoder.ensures

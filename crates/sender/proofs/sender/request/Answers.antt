@@ -1,6 +1,0 @@
-use Rattle.sender.specs.SenderCalls.{request_of}
-use Rattle.sender.proofs.sender.request.Goals as goal
-
-pub returns : goal.returns
-unfolding request_of
-returns c = rw c.new.ensures

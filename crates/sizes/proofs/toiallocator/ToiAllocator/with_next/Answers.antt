@@ -1,7 +1,0 @@
-use Rattle.std.proofs.Common.{refl}
-use Rattle.sizes.specs.Allocator.{noting}
-use Rattle.sizes.proofs.toiallocator.ToiAllocator.with_next.Goals as goal
-
-pub returns : goal.returns
-unfolding noting
-returns c = refl
