@@ -48,6 +48,7 @@ formatted = decimal_by_steps (λ m ds. (0 < length ds) × (all_digits ds ≡ tru
   where
     one : (m : ℕ) → m < 10 → (0 < length ((48 + m) ∷ [])) × (all_digits ((48 + m) ∷ []) ≡ true) × (value_from 0 ((48 + m) ∷ []) ≡ m)
     one m l = (omega arith, rw (le-leb 48 (48 + m) (omega arith), le-leb (48 + m) 57 (omega arith)) refl, omega arith)
+
     more : (m : ℕ) (ds : List ℕ) → 10 ≤ m → (0 < length ds) × (all_digits ds ≡ true) × (value_from 0 ds ≡ m / 10)
         → (0 < length (ds ++ ((48 + m % 10) ∷ []))) × (all_digits (ds ++ ((48 + m % 10) ∷ [])) ≡ true) × (value_from 0 (ds ++ ((48 + m % 10) ∷ [])) ≡ m)
     more m ds l h = (
