@@ -43,7 +43,7 @@ length_shown n = ReplyV.Number n
 abbrev pub record_shown : Record → ℕ → Reply
 record_shown r room = when room_for room r then ReplyV.Written (record { «record» = r; room = room }) else ReplyV.Refused Because.Record
 
--- the reply to one that reads a record
+-- the reply to one that reads a record; whatever the reason, the number is that of a record
 abbrev pub reading_shown : Result Record Refusal → Reply
 reading_shown (Ok r) = ReplyV.Fields r
-reading_shown (Err why) = ReplyV.Refused why
+reading_shown (Err why) = ReplyV.Refused Because.Record

@@ -1,5 +1,6 @@
 // The text of a reply.
-ghost use Rattle.std.specs.Prelude.{◌≤◌};
+ghost use Rattle.std.specs.Prelude.{◌≡◌, ◌+◌, ◌≤◌, length, IsOk, IsErr};
+ghost use Rattle.text.specs.Put.{Appended};
 
 use crate::reply::Reply;
 use crate::store::Stores;
@@ -17,8 +18,15 @@ struct Line {
     ghost inside: { used ≤ 512 },
 }
 
+// A text stands behind what was there, and nothing else changes; it is refused only where it does not fit, and then nothing changes.
 impl fmt::Write for Line {
-    fn write_str(&mut self, text: &str) -> fmt::Result {
+    ghost write_str_gives = { λ was text now. Appended was.bytes was.used text now.bytes now.used };
+
+    fn write_str(&mut self, text: &str) -> fmt::Result
+        ensures ok { IsOk result → Appended self.old.bytes self.old.used text.now self.new.bytes self.new.used }
+        ensures fits { self.old.used + length text.now ≤ 512 → IsOk result }
+        ensures past { IsErr result → self.new ≡ self.old }
+    {
         let text = text.as_bytes();
         if self.bytes.len() - self.used < text.len() {
             return Err(fmt::Error);

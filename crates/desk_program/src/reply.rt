@@ -107,7 +107,7 @@ impl From<Result<Record, Refusal>> for Reply {
     fn from(a: Result<Record, Refusal>) -> Reply {
         match a {
             Ok(r) => Reply::Fields(r),
-            Err(why) => Reply::Refused(why),
+            Err(_) => Reply::Refused(Refusal::Record),
         }
     }
 }

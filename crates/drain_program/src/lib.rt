@@ -57,7 +57,7 @@ fn read_transfer(line: &[u8]) -> Option<Transfer> {
     words.is_over().then_some(Transfer { l, e, b, w })
 }
 
-// Writes the lines of a transfer. The turns are counted down, from a number that no run uses up, since a proved loop
+// Writes the lines of a transfer. The turns are counted, to a number that no run uses up, since a proved loop
 // has to end.
 fn send<W: Write>(to: &mut W, x: BlockEncoder)
     requires { ValidEncoder x }

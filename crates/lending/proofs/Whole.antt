@@ -98,7 +98,7 @@ module _ {M : Type 1} {𝓤 : Ura M} (𝓛 : Logic 𝓤) (R : RattleType) (D : D
   told : (v : Val) → Is R y (v ∷ []) → Is R y (D.mach y ∷ [])
   told v gs = subst (λ (vs : List Val). Is R y vs) (D.tells y (v ∷ []) gs) gs
 
-  told_typed : (v : Val) → Is R y (v ∷ []) → T (has_ty (lone R.mir) v) × WT v
+  pub told_typed : (v : Val) → Is R y (v ∷ []) → T (has_ty (lone R.mir) v) × WT v
   told_typed v gs = subst (λ (u : Val). T (has_ty (lone R.mir) u) × WT u) (sym (ap only (D.tells y (v ∷ []) gs))) (D.typed y (told v gs))
 
 -- ---- 0 arguments, and no answer

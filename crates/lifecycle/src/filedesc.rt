@@ -5,7 +5,13 @@ ghost use Rattle.lifecycle.specs.Lifecycle.{expired, is_last, may_start, may_sto
 ghost use Rattle.lifecycle.specs.FileDesc.{time_of, plan_of, life_of, pace_said, no_time, time_at, no_pace, unborn_of, with_life, started_life, done_life, published_life, reset_life, plan_named, with_carousel, with_target, pace_at, ticked_of, file_new, startable_file};
 
 use crate::parts::Part;
+use sizes::limits::{LARGEST_COUNT, LARGEST_TOTAL};
 use sizes::partition::{Sizes, div_ceil};
+
+// The counts saturate: their limits are the largest numbers of their types.
+const _: () = prove!(LARGEST_COUNT == u32::MAX);
+
+const _: () = prove!(LARGEST_TOTAL == u64::MAX);
 
 // A time that may be missing.
 #[repr(C)]

@@ -38,7 +38,7 @@ pub fn read_words(mut words: Words) -> Option<Result<Record, Refusal>> {
     if !words.is_over() {
         return None;
     }
-    if w == b"-".as_slice() {
+    if text::is_word(w, b"-") {
         return Some(wire::record::read(b""));
     }
     read_word(w)

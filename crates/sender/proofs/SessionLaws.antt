@@ -10,7 +10,7 @@ use Rattle.sizes.proofs.Tables.{inside}
 use Rattle.lifecycle.specs.FileDesc.{with_life}
 use Rattle.lifecycle.specs.Slots.{no_slot, slot_at}
 use Rattle.lifecycle.specs.Announce.{waits_of}
-use Rattle.lifecycle.specs.FdtCalls.{sends, completed_of, reserved_of, released_of, added_of, removed_of, triggered_of, taken_of, done_of, publish_of, next_fdt_of, fdt_done_of, Taken}
+use Rattle.lifecycle.specs.FdtCalls.{ValidFdt, sends, completed_of, reserved_of, released_of, added_of, removed_of, triggered_of, taken_of, done_of, publish_of, next_fdt_of, fdt_done_of, Taken}
 use Rattle.lifecycle.proofs.FdtMeans.{is_taken}
 use Rattle.lifecycle.specs.declared.parts.Part.{Part}
 use Rattle.lifecycle.specs.declared.filedesc.Time.{Time}
@@ -85,19 +85,22 @@ module _ (f : Fdt) (h : Holds f) where
 
 -- ---- an object is taken in hand
 
-module _ (f r : Fdt) (h : Holds f) (p now k : ℕ) (e : taken_of p now f ≡ record { answer = Some k; fdt = r }) where
+module _ (f r : Fdt) (v : ValidFdt f) (p now k : ℕ) (e : taken_of p now f ≡ record { answer = Some k; fdt = r }) where
   -- it is in transfer
-  taken_sends : sends (slot_at r.slots k) ≡ true
+  pub taken_sends : sends (slot_at r.slots k) ≡ true
   taken_sends =
       let b = sends (slot_at f.slots k) in
-      ap (λ (t : Taken). sends (slot_at t.fdt.slots k)) (sym e) ∙ taken_sent f h.valid p now k
+      ap (λ (t : Taken). sends (slot_at t.fdt.slots k)) (sym e) ∙ taken_sent f v p now k
       ∙ ap (λ (t : Taken). is_taken t.answer k || b) e ∙ ap (λ a. a || b) (eq-eqb k k refl)
 
+  pub taken_inside : k < object_slots
+  taken_inside =
+      let l = (subst (λ (t : Taken). ValidFdt t.fdt) e (valid_taken f v p now)).slots_long in
+      let i = inside no_slot sends r.slots k refl taken_sends in omega arith
+
+module _ (f r : Fdt) (h : Holds f) (p now k : ℕ) (e : taken_of p now f ≡ record { answer = Some k; fdt = r }) where
   holds_then : Holds r
   holds_then = subst (λ (t : Taken). Holds t.fdt) e (holds_taken f h p now)
-
-  pub taken_inside : k < object_slots
-  taken_inside = let l = holds_then.valid.slots_long in let i = inside no_slot sends r.slots k refl taken_sends in omega arith
 
   -- what a session begins with is of its object
   pub ready_begun : (w : ℕ) → w ≤ largest_window → Ready r (begun_of w now p k (slot_at r.slots k).file)
@@ -106,8 +109,8 @@ module _ (f r : Fdt) (h : Holds f) (p now k : ℕ) (e : taken_of p now f ≡ rec
       let y = slot_at r.slots k in
       record {
         valid = holds_then.valid;
-        slot = taken_inside;
-        encoder = begun_valid w now p k y.file (holds_then.good k (used_sends y taken_sends)) n;
+        slot = taken_inside f r h.valid p now k e;
+        encoder = begun_valid w now p k y.file (holds_then.good k (used_sends y (taken_sends f r h.valid p now k e))) n;
       }
 
 -- ---- a round of a session

@@ -3,7 +3,7 @@ use Rattle.std.proofs.Common.{◌≡◌, ℕ, ◌+◌, ◌-◌, ◌*◌, ◌<◌
 use mathlib.Core.Bool.{and-false}
 use Rattle.std.specs.Prelude.{Option, None, Some, SomeIff}
 use Rattle.sizes.specs.Limits.{wide}
-use Rattle.sizes.specs.Partition.{fits, checked, reach, symbols_in, first_symbol, block_start, block_size, block_length}
+use Rattle.sizes.specs.Partition.{fits, checked, reach, symbols_in, first_symbol, block_start, block_size, block_length, sizes_given}
 use Rattle.sizes.proofs.Arithmetic.{below_or}
 use Rattle.sizes.specs.declared.numbers.Sbn.{Sbn}
 use Rattle.sizes.specs.declared.partition.Partition.{Partition}
@@ -152,3 +152,8 @@ module _ (p : Partition) (l e : ℕ) (k : Sbn) where
           later_fits o h =
               let f = fitted _ o h in
               all_fit (fitted _ x large).1 (fitted _ y small).1 (rw both f.1) ∙ rw (both, size_small p k later e, f.0, (fitted _ y small).0)
+
+-- how many blocks there are is not asked
+pub length_of_sizes : (p : Partition) (l e : ℕ) (k : Sbn) → block_length p l e k ≡ block_length (sizes_given p.large p.small p.nb_a_large) l e k
+unfolding block_length block_start block_size symbols_in first_symbol
+length_of_sizes p l e k = λ i. block_length p l e k

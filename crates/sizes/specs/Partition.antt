@@ -72,6 +72,6 @@ block_length p l e k =
     then reach (block_start p e k) (block_size p e k) l
     else None
 
--- the sizes that block_length is handed; it does not ask how many blocks there are
+-- three sizes, as a partition: block_length does not ask how many blocks there are
 abbrev pub sizes_given : ℕ → ℕ → ℕ → Partition
 sizes_given large small larges = record { large = large; small = small; nb_a_large = larges; blocks = 0 }

@@ -30,6 +30,11 @@ pub const WAITING_FDTS: usize = 4;
 // The largest FDT id; the next after it is 0.
 pub const LARGEST_FDT_ID: u32 = 0xF_FFFF;
 
+// Where the count of transfers and their total stop.
+pub const LARGEST_COUNT: u32 = 0xFFFF_FFFF;
+
+pub const LARGEST_TOTAL: u64 = 0xFFFF_FFFF_FFFF_FFFF;
+
 // Three of these limits again, for numbers that come in 64 bits: of file sessions, of the window, and of FDT ids.
 pub const LARGEST_NAMED_COUNT: u64 = MOST_SESSIONS as u64;
 

@@ -19,12 +19,11 @@ fn main(rt: HostRuntime) {
 // Writes the numbers of one line, and a line feed.
 fn answer<W: Write>(out: &mut W, line: &[u8]) {
     let mut words = Words::new(line);
-    if let Some(word) = words.next_word() {
-        put(out, word);
-    }
+    let mut gap = b"".as_slice();
     while let Some(word) = words.next_word() {
-        text::write_all(out, b" ");
+        text::write_all(out, gap);
         put(out, word);
+        gap = b" ".as_slice();
     }
     text::write_all(out, b"\n");
 }
