@@ -19,11 +19,13 @@ fn main(rt: HostRuntime) {
 // Writes the numbers of one line, and a line feed.
 fn answer<W: Write>(out: &mut W, line: &[u8]) {
     let mut words = Words::new(line);
-    let mut gap = b"".as_slice();
+    let mut is_first = true;
     while let Some(word) = words.next_word() {
-        text::write_all(out, gap);
+        if !is_first {
+            text::write_all(out, b" ");
+        }
         put(out, word);
-        gap = b" ".as_slice();
+        is_first = false;
     }
     text::write_all(out, b"\n");
 }
