@@ -1,9 +1,9 @@
 -- A call that passes on what it is lent, walked once: it makes a reference to what stands behind its own, hands it to the callee beside its arguments, and answers what the callee answers.
 -- For any types of plain data and any contract: what the callee promises of what stands behind the reference, of the arguments and of the answer, the call promises.
---     passesᵢ_fn         the function's MIR, with i arguments beside the reference
---     passes_true_fn     with the literal `true` for an argument     passed₀_fn     with no answer     views₁_fn     of a call that only reads, lent as `&`
---     runs_as, ..        it does what the callee does with the same reference and the same arguments
---     passesᵢ, ..        it meets each contract that the callee meets
+--     passes₁_fn, passes₂_fn     the function's MIR, with 1 or 2 arguments beside the reference.     passes_true_fn     with the literal `true` for an argument
+--     passed₀_fn                 with no argument and no answer.     views₁_fn     of a call that only reads, lent as `&`
+--     runs_as₁, ..               it does what the callee does with the same reference and the same arguments
+--     passes₁, ..                it meets each contract that the callee meets
 -- Assumes `Logic`.
 use mathlib.Core.Path.{refl, sym, ap, subst}
 use Prim.Native.Nat.{ℕ}
@@ -36,18 +36,6 @@ use Rattle.lending.proofs.Whole.{Data, told_typed}
 -- what fits a MIR type
 abbrev pub Typed : Ty → Val → Type 0
 Typed τ v = T (has_ty τ v) × WT v
-
--- ---- 0 arguments
-abbrev pub passes₀_fn : (behind state inner answer : Ty) (f : Callee) → Fn
-passes₀_fn behind state inner answer f = record {
-  lifetimes = 1;
-  outlives = [];
-  ty_params = [];
-  givens = 0;
-  params = 1;
-  locals = local answer value_local ∷ local (ty_ref (named 0) mut behind) value_local ∷ local (ty_ref erased mut inner) value_local ∷ [];
-  body = seq (assign (place 2 []) (addr_of (place 1 (deref state ∷ [])))) (seq (call f (copy (place 2 []) ∷ []) (place 0 [])) return);
-}
 
 -- ---- the literal `true`
 abbrev pub passes_true_fn : (behind state inner answer : Ty) (f : Callee) → Fn
@@ -119,26 +107,12 @@ module _ {M : Type 1} {𝓤 : Ura M} (𝓛 : Logic 𝓤) (behind state inner ans
   open 𝓛 use {H}
 
   module _ (C : Calls 𝓤 H) (Λ : Loops 𝓤 H) (fm : FmC 𝓤 H 𝓛.laws C) (f : Callee) (b o : ℕ) where
-    pub runs_as₀ : ent 𝓤 (C f (vptr b o ∷ []) (fits 𝓛 K answer)) (WpFn 𝓤 H C Λ (passes₀_fn behind state inner answer f) (vptr b o ∷ []) K)
-    runs_as₀ =
-        qed 𝓛 (raw (C f (vptr b o ∷ []) (fits 𝓛 K answer)) ∷ []) ∵
-        enter ! C Λ (passes₀_fn behind state inner answer f) (vptr b o ∷ []) K $
-        alloc1 ! (λ l₀. alloc1 ! (λ l₁. alloc1 ! (λ l₂. alloc0 ! $ params1 ! $ pass1 ! (init ! 2 refl (tt, tt)) $ pass0 ! $
-        -- [the locals, the last first; the callee]
-        assigns ! (addr ! (from ! (hop ! (look ! 2 refl) (stop !)))) (from ! (stop !)) (init ! 0 refl (tt, tt)) $
-        move ! (6 ∷ []) $
-        calls_from ! fm (raw (C f (vptr b o ∷ []) (fits 𝓛 K answer))) (vptr b o ∷ []) (fits 𝓛 K answer) (id⊢ 𝓤 _) (and_then ! (load ! (from ! (stop !)) (look ! 1 refl)) (no_more !)) (λ v.
-        use1 𝓛 (later (given (Typed answer v) (raw (K v)))) (id⊢ 𝓤 _) $ await ! tt $ learn ! (λ is.
-        land ! (from ! (stop !)) (init ! 5 refl is) $
-        returns ! (look ! 5 refl) $ forget ! 5 refl $ forget ! 3 refl $ forget ! 1 refl $
-        move ! (5 ∷ 6 ∷ []) $ free1 ! $ move ! (3 ∷ 4 ∷ []) $ free1 ! $ move ! (1 ∷ 2 ∷ []) $ free1 ! $ free0 ! $
-        keep ! (0 ∷ []) $ by ! (id⊢ 𝓤 (K v)))))))
-
     pub runs_as_true : ent 𝓤 (C f (vptr b o ∷ vbool true ∷ []) (fits 𝓛 K answer)) (WpFn 𝓤 H C Λ (passes_true_fn behind state inner answer f) (vptr b o ∷ []) K)
     runs_as_true =
         qed 𝓛 (raw (C f (vptr b o ∷ vbool true ∷ []) (fits 𝓛 K answer)) ∷ []) ∵
         enter ! C Λ (passes_true_fn behind state inner answer f) (vptr b o ∷ []) K $
         alloc1 ! (λ l₀. alloc1 ! (λ l₁. alloc1 ! (λ l₂. alloc0 ! $ params1 ! $ pass1 ! (init ! 2 refl (tt, tt)) $ pass0 ! $
+        -- [the locals, the last first; the callee]
         assigns ! (addr ! (from ! (hop ! (look ! 2 refl) (stop !)))) (from ! (stop !)) (init ! 0 refl (tt, tt)) $
         move ! (6 ∷ []) $
         calls_from ! fm (raw (C f (vptr b o ∷ vbool true ∷ []) (fits 𝓛 K answer))) (vptr b o ∷ vbool true ∷ []) (fits 𝓛 K answer) (id⊢ 𝓤 _) (and_then ! (load ! (from ! (stop !)) (look ! 1 refl)) (and_then ! (true_lit !) (no_more !))) (λ v.
@@ -283,18 +257,6 @@ module _ {M : Type 1} {𝓤 : Ura M} (𝓛 : Logic 𝓤) (S P X₁ X₂ : Rattle
     -- the callee's answer, as the call's contract speaks of it, fits its type
     answered : (vs : List Val) (A : SProp 𝓤) (B : P.Denot → SProp 𝓤) → ent 𝓤 (C f vs (gives 𝓛 P E A B)) (C f vs (fits 𝓛 (gives 𝓛 P E A B) (lone P.mir)))
     answered vs A B = weaker vs (gives 𝓛 P E A B) (fits 𝓛 (gives 𝓛 P E A B) (lone P.mir)) (gives_fits 𝓛 P E A B)
-
-    module _ (spec : Spec 𝓤 (lent₀ S P X₁ X₂)) where
-      pub passes₀ : Meets 𝓛 (lent₀ S P X₁ X₂) (C f) spec → Meets 𝓛 (lent₀ S P X₁ X₂) (WpFn 𝓤 H C Λ (passes₀_fn (pointee S.written) (lone S.mir) inner (lone P.mir) f)) spec
-      passes₀ known y =
-          let A : SProp 𝓤 = alive 𝓛 (lent₀ S P X₁ X₂) y.0.0 y.0.1 in
-          let B : P.Denot → SProp 𝓤 = λ r. (spec y.0.0 y.0.3).ensures y.1 r in
-          let b : ℕ = y.0.3.0.ref_ptr.0 in
-          let o : ℕ = y.0.3.0.ref_ptr.1 in
-          entered 𝓛 (lent₀ S P X₁ X₂) spec (WpFn 𝓤 H C Λ (passes₀_fn (pointee S.written) (lone S.mir) inner (lone P.mir) f)) y (mut_vals, tt) (mut_Tells (named 0) y.0.0.0 S, tt) (λ are.
-          via 𝓤 (C f (vptr b o ∷ []) (gives 𝓛 P E A B)) (known ((y.0.0, y.0.1, y.0.2, y.0.3, (vptr b o ∷ [], tt)), y.1))
-          (via 𝓤 (C f (vptr b o ∷ []) (fits 𝓛 (gives 𝓛 P E A B) (lone P.mir))) (answered (vptr b o ∷ []) A B)
-          (runs_as₀ 𝓛 (pointee S.written) (lone S.mir) inner (lone P.mir) (lone P.mir) (lone P.mir) (gives 𝓛 P E A B) C Λ fm f b o)))
 
     module _ (spec : Spec 𝓤 (lent₁ S P X₁ X₂)) where
       pub passes₁ : Meets 𝓛 (lent₁ S P X₁ X₂) (C f) spec → Meets 𝓛 (lent₁ S P X₁ X₂) (WpFn 𝓤 H C Λ (passes₁_fn (pointee S.written) (lone S.mir) inner (lone P.mir) (lone X₁.mir) f)) spec
