@@ -1,9 +1,9 @@
 -- A call that passes on what it is lent, walked once: it makes a reference to what stands behind its own, hands it to the callee beside its arguments, and answers what the callee answers.
 -- For any types of plain data and any contract: what the callee promises of what stands behind the reference, of the arguments and of the answer, the call promises.
---     passesᵢ_fn         the function's MIR, with i arguments beside the reference
---     passes_true_fn     with the literal `true` for an argument     passed₀_fn     with no answer     views₁_fn     of a call that only reads, lent as `&`
---     runs_as, ..        it does what the callee does with the same reference and the same arguments
---     passesᵢ, ..        it meets each contract that the callee meets
+--     passes₁_fn, passes₂_fn     the function's MIR, with 1 or 2 arguments beside the reference.     passes_true_fn     with the literal `true` for an argument
+--     passed₀_fn                 with no argument and no answer.     views₁_fn     of a call that only reads, lent as `&`
+--     runs_as₁, ..               it does what the callee does with the same reference and the same arguments
+--     passes₁, ..                it meets each contract that the callee meets
 -- Assumes `Logic`.
 use mathlib.Core.Path.{refl, sym, ap, subst}
 use Prim.Native.Nat.{ℕ}
@@ -21,12 +21,12 @@ use types.Kit.{‵, raw, given, later, ◌$◌, ◌∵◌, !, qed, by, move, kee
 use types.Run.{look, init, forget, stop, hop, from, load, and_then, no_more, true_lit, unit_lit, of_opd, assigns, addr, land, returns, enter, alloc1, alloc0, params1, pass1, pass0, free1, free0}
 use prog.Wp.{Calls, Loops, WpFn}
 use sound.WpLaws.{FmC}
-use denote.RattleType.{RattleType, Valss, flat, owns}
+use denote.RattleType.{RattleType, Denots, Valss, flat, owns}
 use denote.Laws.{Is, shows, Spells, Tellss, Ises, Are, valss}
 use denote.Memory.{lone, pointee}
 use denote.Plain.{Boolean, bool_Makes, Nothing, Nothing-Tells, Nothing-Makes}
 use denote.Ref.{MutBor, shr_vals, mut_vals, mut_Tells, shr_Tells}
-use denote.Signature.{Signature, types_at, plain, mut_ref_to, shr_ref_to}
+use denote.Signature.{Slot, Signature, types_at, plain, mut_ref_to, shr_ref_to}
 use denote.Triple.Entry.{alive, on_entry}
 use denote.Steps.{owned, only, peeks, said}
 use denote.Triple.Call.{calls_from}
@@ -36,18 +36,6 @@ use Rattle.lending.proofs.Whole.{Data, told_typed}
 -- what fits a MIR type
 abbrev pub Typed : Ty → Val → Type 0
 Typed τ v = T (has_ty τ v) × WT v
-
--- ---- 0 arguments
-abbrev pub passes₀_fn : (behind state inner answer : Ty) (f : Callee) → Fn
-passes₀_fn behind state inner answer f = record {
-  lifetimes = 1;
-  outlives = [];
-  ty_params = [];
-  givens = 0;
-  params = 1;
-  locals = local answer value_local ∷ local (ty_ref (named 0) mut behind) value_local ∷ local (ty_ref erased mut inner) value_local ∷ [];
-  body = seq (assign (place 2 []) (addr_of (place 1 (deref state ∷ [])))) (seq (call f (copy (place 2 []) ∷ []) (place 0 [])) return);
-}
 
 -- ---- the literal `true`
 abbrev pub passes_true_fn : (behind state inner answer : Ty) (f : Callee) → Fn
@@ -119,26 +107,12 @@ module _ {M : Type 1} {𝓤 : Ura M} (𝓛 : Logic 𝓤) (behind state inner ans
   open 𝓛 use {H}
 
   module _ (C : Calls 𝓤 H) (Λ : Loops 𝓤 H) (fm : FmC 𝓤 H 𝓛.laws C) (f : Callee) (b o : ℕ) where
-    pub runs_as₀ : ent 𝓤 (C f (vptr b o ∷ []) (fits 𝓛 K answer)) (WpFn 𝓤 H C Λ (passes₀_fn behind state inner answer f) (vptr b o ∷ []) K)
-    runs_as₀ =
-        qed 𝓛 (raw (C f (vptr b o ∷ []) (fits 𝓛 K answer)) ∷ []) ∵
-        enter ! C Λ (passes₀_fn behind state inner answer f) (vptr b o ∷ []) K $
-        alloc1 ! (λ l₀. alloc1 ! (λ l₁. alloc1 ! (λ l₂. alloc0 ! $ params1 ! $ pass1 ! (init ! 2 refl (tt, tt)) $ pass0 ! $
-        -- [the locals, the last first; the callee]
-        assigns ! (addr ! (from ! (hop ! (look ! 2 refl) (stop !)))) (from ! (stop !)) (init ! 0 refl (tt, tt)) $
-        move ! (6 ∷ []) $
-        calls_from ! fm (raw (C f (vptr b o ∷ []) (fits 𝓛 K answer))) (vptr b o ∷ []) (fits 𝓛 K answer) (id⊢ 𝓤 _) (and_then ! (load ! (from ! (stop !)) (look ! 1 refl)) (no_more !)) (λ v.
-        use1 𝓛 (later (given (Typed answer v) (raw (K v)))) (id⊢ 𝓤 _) $ await ! tt $ learn ! (λ is.
-        land ! (from ! (stop !)) (init ! 5 refl is) $
-        returns ! (look ! 5 refl) $ forget ! 5 refl $ forget ! 3 refl $ forget ! 1 refl $
-        move ! (5 ∷ 6 ∷ []) $ free1 ! $ move ! (3 ∷ 4 ∷ []) $ free1 ! $ move ! (1 ∷ 2 ∷ []) $ free1 ! $ free0 ! $
-        keep ! (0 ∷ []) $ by ! (id⊢ 𝓤 (K v)))))))
-
     pub runs_as_true : ent 𝓤 (C f (vptr b o ∷ vbool true ∷ []) (fits 𝓛 K answer)) (WpFn 𝓤 H C Λ (passes_true_fn behind state inner answer f) (vptr b o ∷ []) K)
     runs_as_true =
         qed 𝓛 (raw (C f (vptr b o ∷ vbool true ∷ []) (fits 𝓛 K answer)) ∷ []) ∵
         enter ! C Λ (passes_true_fn behind state inner answer f) (vptr b o ∷ []) K $
         alloc1 ! (λ l₀. alloc1 ! (λ l₁. alloc1 ! (λ l₂. alloc0 ! $ params1 ! $ pass1 ! (init ! 2 refl (tt, tt)) $ pass0 ! $
+        -- [the locals, the last first; the callee]
         assigns ! (addr ! (from ! (hop ! (look ! 2 refl) (stop !)))) (from ! (stop !)) (init ! 0 refl (tt, tt)) $
         move ! (6 ∷ []) $
         calls_from ! fm (raw (C f (vptr b o ∷ vbool true ∷ []) (fits 𝓛 K answer))) (vptr b o ∷ vbool true ∷ []) (fits 𝓛 K answer) (id⊢ 𝓤 _) (and_then ! (load ! (from ! (stop !)) (look ! 1 refl)) (and_then ! (true_lit !) (no_more !))) (λ v.
@@ -284,57 +258,41 @@ module _ {M : Type 1} {𝓤 : Ura M} (𝓛 : Logic 𝓤) (S P X₁ X₂ : Rattle
     answered : (vs : List Val) (A : SProp 𝓤) (B : P.Denot → SProp 𝓤) → ent 𝓤 (C f vs (gives 𝓛 P E A B)) (C f vs (fits 𝓛 (gives 𝓛 P E A B) (lone P.mir)))
     answered vs A B = weaker vs (gives 𝓛 P E A B) (fits 𝓛 (gives 𝓛 P E A B) (lone P.mir)) (gives_fits 𝓛 P E A B)
 
-    module _ (spec : Spec 𝓤 (lent₀ S P X₁ X₂)) where
-      pub passes₀ : Meets 𝓛 (lent₀ S P X₁ X₂) (C f) spec → Meets 𝓛 (lent₀ S P X₁ X₂) (WpFn 𝓤 H C Λ (passes₀_fn (pointee S.written) (lone S.mir) inner (lone P.mir) f)) spec
-      passes₀ known y =
-          let A : SProp 𝓤 = alive 𝓛 (lent₀ S P X₁ X₂) y.0.0 y.0.1 in
-          let B : P.Denot → SProp 𝓤 = λ r. (spec y.0.0 y.0.3).ensures y.1 r in
-          let b : ℕ = y.0.3.0.ref_ptr.0 in
-          let o : ℕ = y.0.3.0.ref_ptr.1 in
-          entered 𝓛 (lent₀ S P X₁ X₂) spec (WpFn 𝓤 H C Λ (passes₀_fn (pointee S.written) (lone S.mir) inner (lone P.mir) f)) y (mut_vals, tt) (mut_Tells (named 0) y.0.0.0 S, tt) (λ are.
-          via 𝓤 (C f (vptr b o ∷ []) (gives 𝓛 P E A B)) (known ((y.0.0, y.0.1, y.0.2, y.0.3, (vptr b o ∷ [], tt)), y.1))
-          (via 𝓤 (C f (vptr b o ∷ []) (fits 𝓛 (gives 𝓛 P E A B) (lone P.mir))) (answered (vptr b o ∷ []) A B)
-          (runs_as₀ 𝓛 (pointee S.written) (lone S.mir) inner (lone P.mir) (lone P.mir) (lone P.mir) (gives 𝓛 P E A B) C Λ fm f b o)))
+    -- a function that does what the callee does, at the machine values of its arguments, meets what the callee meets
+    module _ (params : List (Slot 1)) (fn : Fn) where
+      abbrev taking : Signature
+      taking = record { lifetimes = 1; outlives = []; params = params; result = plain (λ κs. P) }
 
-    module _ (spec : Spec 𝓤 (lent₁ S P X₁ X₂)) where
-      pub passes₁ : Meets 𝓛 (lent₁ S P X₁ X₂) (C f) spec → Meets 𝓛 (lent₁ S P X₁ X₂) (WpFn 𝓤 H C Λ (passes₁_fn (pointee S.written) (lone S.mir) inner (lone P.mir) (lone X₁.mir) f)) spec
-      passes₁ known y =
-          let A : SProp 𝓤 = alive 𝓛 (lent₁ S P X₁ X₂) y.0.0 y.0.1 in
+      met : (spec : Spec 𝓤 taking) (sp : (κs : Lfts 1) → Spells (types_at params κs)) → ((κs : Lfts 1) → Tellss (types_at params κs) (Ises (types_at params κs)) (sp κs))
+          → ((κs : Lfts 1) (a : Denots (types_at params κs)) → Are (types_at params κs) (Ises (types_at params κs)) a (valss (types_at params κs) (sp κs) a) → (K : Val → SProp 𝓤)
+          → ent 𝓤 (C f (flat (types_at params κs) (valss (types_at params κs) (sp κs) a)) (fits 𝓛 K (lone P.mir))) (WpFn 𝓤 H C Λ fn (flat (types_at params κs) (valss (types_at params κs) (sp κs) a)) K))
+          → Meets 𝓛 taking (C f) spec → Meets 𝓛 taking (WpFn 𝓤 H C Λ fn) spec
+      met spec sp tl runs known y =
+          let A : SProp 𝓤 = alive 𝓛 taking y.0.0 y.0.1 in
           let B : P.Denot → SProp 𝓤 = λ r. (spec y.0.0 y.0.3).ensures y.1 r in
-          let b : ℕ = y.0.3.0.ref_ptr.0 in
-          let o : ℕ = y.0.3.0.ref_ptr.1 in
-          let v₁ : Val = D₁.mach y.0.3.1.0 in
-          entered 𝓛 (lent₁ S P X₁ X₂) spec (WpFn 𝓤 H C Λ (passes₁_fn (pointee S.written) (lone S.mir) inner (lone P.mir) (lone X₁.mir) f)) y (mut_vals, ((λ x. D₁.mach x ∷ []), tt)) (mut_Tells (named 0) y.0.0.0 S, (D₁.tells, tt)) (λ are.
-          via 𝓤 (C f (vptr b o ∷ v₁ ∷ []) (gives 𝓛 P E A B)) (known ((y.0.0, y.0.1, y.0.2, y.0.3, (vptr b o ∷ [], (v₁ ∷ [], tt))), y.1))
-          (via 𝓤 (C f (vptr b o ∷ v₁ ∷ []) (fits 𝓛 (gives 𝓛 P E A B) (lone P.mir))) (answered (vptr b o ∷ v₁ ∷ []) A B)
-          (runs_as₁ 𝓛 (pointee S.written) (lone S.mir) inner (lone P.mir) (lone X₁.mir) (lone P.mir) (gives 𝓛 P E A B) C Λ fm f b o v₁ (D₁.typed y.0.3.1.0 are.1.0))))
+          let us : Valss (types_at params y.0.0) = valss (types_at params y.0.0) (sp y.0.0) y.0.3 in
+          let vs : List Val = flat (types_at params y.0.0) us in
+          entered 𝓛 taking spec (WpFn 𝓤 H C Λ fn) y (sp y.0.0) (tl y.0.0) (λ are.
+          via 𝓤 (C f vs (gives 𝓛 P E A B)) (known ((y.0.0, y.0.1, y.0.2, y.0.3, us), y.1))
+          (via 𝓤 (C f vs (fits 𝓛 (gives 𝓛 P E A B) (lone P.mir))) (answered vs A B) (runs y.0.0 y.0.3 are (gives 𝓛 P E A B))))
 
-    module _ (spec : Spec 𝓤 (lent₂ S P X₁ X₂)) where
-      pub passes₂ : Meets 𝓛 (lent₂ S P X₁ X₂) (C f) spec → Meets 𝓛 (lent₂ S P X₁ X₂) (WpFn 𝓤 H C Λ (passes₂_fn (pointee S.written) (lone S.mir) inner (lone P.mir) (lone X₁.mir) (lone X₂.mir) f)) spec
-      passes₂ known y =
-          let A : SProp 𝓤 = alive 𝓛 (lent₂ S P X₁ X₂) y.0.0 y.0.1 in
-          let B : P.Denot → SProp 𝓤 = λ r. (spec y.0.0 y.0.3).ensures y.1 r in
-          let b : ℕ = y.0.3.0.ref_ptr.0 in
-          let o : ℕ = y.0.3.0.ref_ptr.1 in
-          let v₁ : Val = D₁.mach y.0.3.1.0 in
-          let v₂ : Val = D₂.mach y.0.3.1.1.0 in
-          entered 𝓛 (lent₂ S P X₁ X₂) spec (WpFn 𝓤 H C Λ (passes₂_fn (pointee S.written) (lone S.mir) inner (lone P.mir) (lone X₁.mir) (lone X₂.mir) f)) y (mut_vals, ((λ x. D₁.mach x ∷ []), ((λ x. D₂.mach x ∷ []), tt))) (mut_Tells (named 0) y.0.0.0 S, (D₁.tells, (D₂.tells, tt))) (λ are.
-          via 𝓤 (C f (vptr b o ∷ v₁ ∷ v₂ ∷ []) (gives 𝓛 P E A B)) (known ((y.0.0, y.0.1, y.0.2, y.0.3, (vptr b o ∷ [], (v₁ ∷ [], (v₂ ∷ [], tt)))), y.1))
-          (via 𝓤 (C f (vptr b o ∷ v₁ ∷ v₂ ∷ []) (fits 𝓛 (gives 𝓛 P E A B) (lone P.mir))) (answered (vptr b o ∷ v₁ ∷ v₂ ∷ []) A B)
-          (runs_as₂ 𝓛 (pointee S.written) (lone S.mir) inner (lone P.mir) (lone X₁.mir) (lone X₂.mir) (gives 𝓛 P E A B) C Λ fm f b o v₁ (D₁.typed y.0.3.1.0 are.1.0) v₂ (D₂.typed y.0.3.1.1.0 are.1.1.0))))
+    pub passes₁ : (spec : Spec 𝓤 (lent₁ S P X₁ X₂)) → Meets 𝓛 (lent₁ S P X₁ X₂) (C f) spec
+        → Meets 𝓛 (lent₁ S P X₁ X₂) (WpFn 𝓤 H C Λ (passes₁_fn (pointee S.written) (lone S.mir) inner (lone P.mir) (lone X₁.mir) f)) spec
+    passes₁ spec = met (lent₁ S P X₁ X₂).params (passes₁_fn (pointee S.written) (lone S.mir) inner (lone P.mir) (lone X₁.mir) f) spec
+        (λ κs. (mut_vals, ((λ x. D₁.mach x ∷ []), tt))) (λ κs. (mut_Tells (named 0) κs.0 S, (D₁.tells, tt)))
+        (λ κs a are K. runs_as₁ 𝓛 (pointee S.written) (lone S.mir) inner (lone P.mir) (lone X₁.mir) (lone P.mir) K C Λ fm f a.0.ref_ptr.0 a.0.ref_ptr.1 (D₁.mach a.1.0) (D₁.typed a.1.0 are.1.0))
 
-    module _ (spec : Spec 𝓤 (seen₁ S P X₁ X₂)) where
-      pub views₁ : Meets 𝓛 (seen₁ S P X₁ X₂) (C f) spec → Meets 𝓛 (seen₁ S P X₁ X₂) (WpFn 𝓤 H C Λ (views₁_fn (pointee S.written) (lone P.mir) (lone X₁.mir) f)) spec
-      views₁ known y =
-          let A : SProp 𝓤 = alive 𝓛 (seen₁ S P X₁ X₂) y.0.0 y.0.1 in
-          let B : P.Denot → SProp 𝓤 = λ r. (spec y.0.0 y.0.3).ensures y.1 r in
-          let b : ℕ = y.0.3.0.ref_ptr.0 in
-          let o : ℕ = y.0.3.0.ref_ptr.1 in
-          let v₁ : Val = D₁.mach y.0.3.1.0 in
-          entered 𝓛 (seen₁ S P X₁ X₂) spec (WpFn 𝓤 H C Λ (views₁_fn (pointee S.written) (lone P.mir) (lone X₁.mir) f)) y (shr_vals, ((λ x. D₁.mach x ∷ []), tt)) (shr_Tells (named 0) y.0.0.0 S, (D₁.tells, tt)) (λ are.
-          via 𝓤 (C f (vptr b o ∷ v₁ ∷ []) (gives 𝓛 P E A B)) (known ((y.0.0, y.0.1, y.0.2, y.0.3, (vptr b o ∷ [], (v₁ ∷ [], tt))), y.1))
-          (via 𝓤 (C f (vptr b o ∷ v₁ ∷ []) (fits 𝓛 (gives 𝓛 P E A B) (lone P.mir))) (answered (vptr b o ∷ v₁ ∷ []) A B)
-          (runs_as_view₁ 𝓛 (pointee S.written) (lone S.mir) inner (lone P.mir) (lone X₁.mir) (lone P.mir) (gives 𝓛 P E A B) C Λ fm f b o v₁ (D₁.typed y.0.3.1.0 are.1.0))))
+    pub passes₂ : (spec : Spec 𝓤 (lent₂ S P X₁ X₂)) → Meets 𝓛 (lent₂ S P X₁ X₂) (C f) spec
+        → Meets 𝓛 (lent₂ S P X₁ X₂) (WpFn 𝓤 H C Λ (passes₂_fn (pointee S.written) (lone S.mir) inner (lone P.mir) (lone X₁.mir) (lone X₂.mir) f)) spec
+    passes₂ spec = met (lent₂ S P X₁ X₂).params (passes₂_fn (pointee S.written) (lone S.mir) inner (lone P.mir) (lone X₁.mir) (lone X₂.mir) f) spec
+        (λ κs. (mut_vals, ((λ x. D₁.mach x ∷ []), ((λ x. D₂.mach x ∷ []), tt)))) (λ κs. (mut_Tells (named 0) κs.0 S, (D₁.tells, (D₂.tells, tt))))
+        (λ κs a are K. runs_as₂ 𝓛 (pointee S.written) (lone S.mir) inner (lone P.mir) (lone X₁.mir) (lone X₂.mir) K C Λ fm f a.0.ref_ptr.0 a.0.ref_ptr.1 (D₁.mach a.1.0) (D₁.typed a.1.0 are.1.0) (D₂.mach a.1.1.0) (D₂.typed a.1.1.0 are.1.1.0))
+
+    pub views₁ : (spec : Spec 𝓤 (seen₁ S P X₁ X₂)) → Meets 𝓛 (seen₁ S P X₁ X₂) (C f) spec
+        → Meets 𝓛 (seen₁ S P X₁ X₂) (WpFn 𝓤 H C Λ (views₁_fn (pointee S.written) (lone P.mir) (lone X₁.mir) f)) spec
+    views₁ spec = met (seen₁ S P X₁ X₂).params (views₁_fn (pointee S.written) (lone P.mir) (lone X₁.mir) f) spec
+        (λ κs. (shr_vals, ((λ x. D₁.mach x ∷ []), tt))) (λ κs. (shr_Tells (named 0) κs.0 S, (D₁.tells, tt)))
+        (λ κs a are K. runs_as_view₁ 𝓛 (pointee S.written) (lone S.mir) inner (lone P.mir) (lone X₁.mir) (lone P.mir) K C Λ fm f a.0.ref_ptr.0 a.0.ref_ptr.1 (D₁.mach a.1.0) (D₁.typed a.1.0 are.1.0))
 
     -- with the literal `true`: what the callee's contract says of it
     abbrev pub of_true : Spec 𝓤 (lent₁ S P Boolean X₂) → Spec 𝓤 (lent₀ S P X₁ X₂)
